@@ -1,0 +1,3 @@
+pub mod Substitution
+pub mod Rounds
+pub mod Widths

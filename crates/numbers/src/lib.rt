@@ -1,0 +1,1 @@
+// Numbers by their digits: no code, only laws that the layers above cite (proofs/).

@@ -1,0 +1,4 @@
+pub mod BigEndian
+pub mod Parts
+pub mod Places
+pub mod Same

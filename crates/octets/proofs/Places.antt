@@ -1,0 +1,79 @@
+-- A list with other bytes at a place: its length, and bytes written one stretch after the other.
+-- Assumes nothing.
+use mathlib.Core.Path.{_≡_, refl, sym, ap, ap₂, _∙_}
+use mathlib.Core.List.{List, [], _∷_, _++_, append-assoc}
+use Prim.Native.Nat.{ℕ, suc, _+_, _/_, _%_, _≤_, _<_}
+use native.Mathlib.Nat.{add-assoc, add-suc, add-zero}
+use native.Mathlib.Numerals.{add-one}
+use native.Mathlib.Omega.{arith}
+use lib.ListN.{length, getD, take, drop, set, length-append, length-drop, length-set, take-append-drop}
+use lib.Seq.{drop-cons, take-append-seam, drop-append-seam, drop-set-lt, getD-set-same, paste, paste-suc, length-take-le, take-length, take-add, take-paste, drop-paste, drop-drop}
+use Rattle.octets.specs.Octets.{bytesOf, part, put}
+use Rattle.octets.proofs.BigEndian.{length-bytes}
+
+pub length-put : (l : List ℕ) (at : ℕ) (new : List ℕ) → at + length new ≤ length l → length (put l at new) ≡ length l
+length-put l at new h = simp (length-append, length-take-le at l (omega arith), length-drop) (omega arith)
+
+-- a loop that writes new bytes one by one: a turn of it, and its end
+pub one-more : (l done : List ℕ) (at i x : ℕ) (new : List ℕ) → done ≡ paste l at new i → at + i < length l → i < length new → x ≡ getD new i 0
+    → set done (at + i) x ≡ paste l at new (i + 1)
+one-more l done at i x new e h k is = rw (e, is, add-one) (paste-suc l at new i 0 h k)
+
+pub all-put : (l done : List ℕ) (at i : ℕ) (new : List ℕ) → done ≡ paste l at new i → i ≡ length new → done ≡ put l at new
+all-put l done at i new e is = rw (e, is, take-length new)
+
+-- n of the bytes are written, and now those of a stretch behind them
+pub put-next : (l : List ℕ) (at n : ℕ) (new stretch : List ℕ) → at ≤ length l → n ≤ length new → part n (length stretch) new ≡ stretch
+    → put (paste l at new n) (at + n) stretch ≡ paste l at new (n + length stretch)
+put-next l at n new stretch h k e =
+    ap₂ (λ (u v : List ℕ). u ++ stretch ++ v)
+    (take-paste l at new n h k)
+    (sym (drop-drop (length stretch) (at + n) (paste l at new n))
+    ∙ ap (drop (length stretch)) (drop-paste l at new n h k)
+    ∙ drop-drop (length stretch) (at + n) l
+    ∙ ap (λ (i : ℕ). drop i l) (add-assoc at n (length stretch)))
+    ∙ ap (λ (u : List ℕ). u ++ drop (at + (n + length stretch)) l)
+    (append-assoc (take at l) (take n new) stretch
+    ∙ ap (λ (u : List ℕ). take at l ++ u) (ap (λ (u : List ℕ). take n new ++ u) (sym e) ∙ sym (take-add n (length stretch) new)))
+
+-- two writes side by side are one
+pub put-put : (l : List ℕ) (at : ℕ) (u v : List ℕ) → at ≤ length l → put (put l at u) (at + length u) v ≡ put l at (u ++ v)
+put-put l at u v h =
+    ap (λ (w : List ℕ). put (take at l ++ w ++ drop (at + length u) l) (at + length u) v) (sym (take-append-seam u v))
+    ∙ put-next l at (length u) (u ++ v) v h (rw length-append (omega arith)) (ap (take (length v)) (drop-append-seam u v) ∙ take-length v)
+    ∙ all-put l _ at (length u + length v) (u ++ v) refl (sym (length-append u v))
+
+-- the same, where the second write's place is known by its number
+pub put-behind : (l : List ℕ) (at n : ℕ) (u v : List ℕ) → at ≤ length l → at + length u ≡ n → put (put l at u) n v ≡ put l at (u ++ v)
+put-behind l at n u v h e = ap (λ (k : ℕ). put (put l at u) k v) (sym e) ∙ put-put l at u v h
+
+-- four writes, each behind the one before
+pub put-four : (l one two three four : List ℕ) (at p q r : ℕ) (a b c d : List ℕ) → at ≤ length l
+    → at + length a ≡ p → p + length b ≡ q → q + length c ≡ r
+    → one ≡ put l at a → two ≡ put one p b → three ≡ put two q c → four ≡ put three r d → four ≡ put l at (a ++ b ++ c ++ d)
+put-four l one two three four at p q r a b c d h x y z e f g k =
+    let to-two : two ≡ put l at (a ++ b) = rw (f, e) (put-behind l at p a b h x) in
+    let to-three : three ≡ put l at (a ++ b ++ c) = rw (g, to-two) (put-behind l at q (a ++ b) c h (rw length-append (omega arith))) in
+    rw (k, to-three) (put-behind l at r (a ++ b ++ c) d h (simp length-append (omega arith)))
+
+-- a loop that writes a number from its lowest byte down: a turn of it, and its end
+pub one-lower : (out : List ℕ) (at i x : ℕ) → at + i < length out
+    → bytesOf i (x / 256) ++ drop (at + i) (set out (at + i) (x % 256)) ≡ bytesOf (suc i) x ++ drop (at + suc i) out
+unfolding bytesOf
+one-lower out at i x h =
+    rw (
+      drop-cons (set out (at + i) (x % 256)) (at + i) 0 (rw length-set h),
+      getD-set-same out (at + i) (x % 256) 0 h,
+      drop-set-lt (suc (at + i)) out (at + i) (x % 256) (omega arith),
+      add-suc,
+    )
+    (sym (append-assoc (bytesOf i (x / 256)) (x % 256 ∷ []) (drop (suc (at + i)) out)))
+
+pub all-lower : (l done : List ℕ) (at n x i rest : ℕ) → i ≡ 0 → take at done ≡ take at l
+    → bytesOf i rest ++ drop (at + i) done ≡ bytesOf n x ++ drop (at + n) l → done ≡ put l at (bytesOf n x)
+unfolding bytesOf
+all-lower l done at n x i rest none front back =
+    sym (take-append-drop at done)
+    ∙ ap₂ (λ (u v : List ℕ). u ++ v) front (simp (none, add-zero) at back)
+    ∙ sym (append-assoc (take at l) (bytesOf n x) (drop (at + n) l))
+    ∙ rw (length-bytes n x)
