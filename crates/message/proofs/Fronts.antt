@@ -1,0 +1,60 @@
+-- What stands before the ICV of a sealed message: its length, its bytes, and how it and the whole message are written.
+-- Assumes nothing.
+use mathlib.Core.Path.{_≡_, _∙_}
+use mathlib.Core.List.{List, _++_}
+use Prim.Native.Nat.{ℕ, _+_, _*_, _^_}
+use native.Mathlib.Nat.{zero-add}
+use native.Mathlib.Omega.{arith}
+use lib.ListN.{length, take, length-append}
+use Rattle.octets.specs.Octets.{bytesOf, put}
+use Rattle.octets.proofs.BigEndian.{Bytes, bytes-append, bytes-small}
+use Rattle.magma.specs.Magma.{keyWords}
+use Rattle.message.specs.Suite.{numberOf, icvLengthOf}
+use Rattle.message.specs.Header.{headerBytes}
+use Rattle.message.specs.Sealing.{icvOf, enciphered, frontOf, sealed}
+use Rattle.message.specs.declared.suite.Suite.{Suite}
+use Rattle.message.proofs.Payloads.{enciphered-length, enciphered-bytes}
+use Rattle.message.proofs.Pieces.{piece, take-put}
+use Rattle.message.proofs.Written.{header-length}
+
+module _ (s : Suite) (key : List ℕ) (flag : ℕ) (keyId source : List ℕ) (seqNum : ℕ) (payload : List ℕ) where
+  pub front-length : length (frontOf s key flag keyId source seqNum payload) ≡ 9 + length keyId + length payload
+  unfolding frontOf
+  front-length =
+      rw (
+        length-append (headerBytes flag s keyId seqNum) (enciphered s (keyWords key) source seqNum payload),
+        header-length flag s keyId seqNum,
+        enciphered-length s (keyWords key) source seqNum payload,
+      )
+
+  pub front-bytes : Bytes keyId → Bytes payload → Bytes (frontOf s key flag keyId source seqNum payload)
+  unfolding frontOf
+  front-bytes id sent =
+      let front = bytes-append (bytesOf 2 (flag * 2 ^ 15)) (bytesOf 1 (numberOf s)) (bytes-small 2 (flag * 2 ^ 15)) (bytes-small 1 (numberOf s)) in
+      let named = bytes-append (bytesOf 2 (flag * 2 ^ 15) ++ bytesOf 1 (numberOf s)) keyId front id in
+      bytes-append (headerBytes flag s keyId seqNum) (enciphered s (keyWords key) source seqNum payload)
+      (bytes-append (bytesOf 2 (flag * 2 ^ 15) ++ bytesOf 1 (numberOf s) ++ keyId) (bytesOf 6 seqNum) named (bytes-small 6 seqNum))
+      (enciphered-bytes s (keyWords key) source seqNum payload sent)
+
+  -- the header is written, and the payload behind it
+  pub front-written : (l : List ℕ) {l₁ l₂ : List ℕ} → l₁ ≡ put l 0 (headerBytes flag s keyId seqNum)
+      → l₂ ≡ put l₁ (9 + length keyId) (enciphered s (keyWords key) source seqNum payload) → l₂ ≡ put l 0 (frontOf s key flag keyId source seqNum payload)
+  unfolding frontOf
+  front-written l w₁ w₂ =
+      piece l 0 (headerBytes flag s keyId seqNum) (9 + length keyId) (enciphered s (keyWords key) source seqNum payload) (omega arith) w₁
+      (zero-add _ ∙ header-length flag s keyId seqNum)
+      w₂
+
+  module _ (l : List ℕ) {done : List ℕ} (is : done ≡ put l 0 (frontOf s key flag keyId source seqNum payload)) where
+    -- it can be read off the output
+    front-taken : take (9 + length keyId + length payload) done ≡ frontOf s key flag keyId source seqNum payload
+    front-taken =
+        rw is (take-put l 0 (frontOf s key flag keyId source seqNum payload) (9 + length keyId + length payload) (omega arith) (zero-add _ ∙ front-length))
+
+    -- and the ICV comes behind it
+    pub sealed-written : {more : List ℕ} (icv n : ℕ) → icv ≡ icvOf s (keyWords key) source seqNum (take (9 + length keyId + length payload) done) → n ≡ icvLengthOf s
+        → more ≡ put done (9 + length keyId + length payload) (bytesOf n icv) → more ≡ put l 0 (sealed s key flag keyId source seqNum payload)
+    unfolding sealed
+    sealed-written icv n right long written =
+        piece l 0 (frontOf s key flag keyId source seqNum payload) (9 + length keyId + length payload) _ (omega arith) is (zero-add _ ∙ front-length)
+        (written ∙ rw (long, right, front-taken))

@@ -1,0 +1,36 @@
+-- What a suite makes of a payload: as long, bytes again, and undone by the same; and the width of an ICV.
+-- Assumes nothing.
+use mathlib.Core.Path.{_≡_, refl}
+use mathlib.Core.List.{List}
+use Prim.Native.Nat.{ℕ, _*_, _^_, _<_}
+use native.Mathlib.Omega.{arith}
+use lib.ListN.{length}
+use Rattle.octets.proofs.BigEndian.{Bytes}
+use Rattle.modes.proofs.Gamma.{counter-length, counter-bytes, counter-twice}
+use Rattle.modes.proofs.Widths.{check-lt}
+use Rattle.message.specs.Derivation.{checkKey}
+use Rattle.message.specs.Sealing.{icvOf, enciphered}
+use Rattle.message.specs.Suite.{icvLengthOf}
+use Rattle.message.specs.declared.suite.Suite.{Suite}
+use Rattle.message.specs.declared.suite.Suite.the-variants.{MagmaCtr, MagmaNull}
+use Rattle.message.proofs.Suites.{icv-four}
+
+pub enciphered-length : (s : Suite) (base source : List ℕ) (seqNum : ℕ) (payload : List ℕ) → length (enciphered s base source seqNum payload) ≡ length payload
+unfolding enciphered
+enciphered-length MagmaCtr base source seqNum payload = counter-length _ _ _ payload
+enciphered-length MagmaNull base source seqNum payload = refl
+
+pub enciphered-bytes : (s : Suite) (base source : List ℕ) (seqNum : ℕ) (payload : List ℕ) → Bytes payload → Bytes (enciphered s base source seqNum payload)
+unfolding enciphered
+enciphered-bytes MagmaCtr base source seqNum payload h = counter-bytes _ _ _ payload h
+enciphered-bytes MagmaNull base source seqNum payload h = h
+
+pub enciphered-twice : (s : Suite) (base source : List ℕ) (seqNum : ℕ) (payload : List ℕ)
+    → enciphered s base source seqNum (enciphered s base source seqNum payload) ≡ payload
+unfolding enciphered
+enciphered-twice MagmaCtr base source seqNum payload = counter-twice _ _ _ payload
+enciphered-twice MagmaNull base source seqNum payload = refl
+
+pub icv-lt : (s : Suite) (base source : List ℕ) (seqNum : ℕ) (front : List ℕ) → Bytes front → icvOf s base source seqNum front < 2 ^ (8 * icvLengthOf s)
+unfolding icvOf
+icv-lt s base source seqNum front h = rw (icv-four s) (omega (arith, check-lt front h (checkKey base s source seqNum)))

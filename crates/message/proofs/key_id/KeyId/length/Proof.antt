@@ -1,0 +1,22 @@
+-- `message::key_id::KeyId::length` meets its contract, kind by kind. Assumes nothing.
+use mathlib.Core.Path.{sym, ap}
+use borrow.Author.Needs.{needs}
+use Rattle.message.specs.KeyId.{lengthOf}
+use Rattle.message.proofs.key_id.KeyId.length.Statement.{statement}
+use Rattle.message.proofs.key_id.KeyId.length.Tie as tie
+
+returns-3 : tie.Need-returns-3
+returns-3 c = sym (ap lengthOf (c .before .self .given .1))
+
+pub length-spec : {M : Type 1} → statement M
+length-spec =
+    tie.close
+    (tie.spec
+    (λ c. search needs)
+    (λ c. search needs)
+    (λ c. search needs)
+    (λ c. search needs)
+    (λ c. search needs)
+    (λ c. search needs)
+    (λ c. search needs)
+    returns-3)

@@ -1,0 +1,38 @@
+-- `message::sealing::encipher` meets its contract: counter mode under the cipher key where the suite enciphers, the payload itself where not.
+-- Assumes nothing.
+use mathlib.Core.Bool.{true, false}
+use mathlib.Core.Path.{_≡_, sym, _∙_}
+use borrow.Author.Needs.{needs}
+use Rattle.message.specs.Suite.{enciphers}
+use Rattle.message.specs.Sealing.{enciphered}
+use Rattle.message.proofs.sealing.encipher.Statement.{statement}
+use Rattle.message.proofs.sealing.encipher.Tie as tie
+
+returns : tie.Need-returns
+unfolding enciphered
+returns c =
+    let key = c .before .before .before .before .before in
+    let test = key .before in
+    let on : enciphers (test .before .before .before .before .before .args .suite) ≡ true = sym (test .before .enciphers .ensures) ∙ test .if1 .taken in
+    rw (c .before .before .counter .ensures, key .derived-key .ensures, on)
+
+returns-2 : tie.Need-returns-2
+unfolding enciphered
+returns-2 c =
+    let test = c .before .before .before .before in
+    let off : enciphers (test .before .before .before .before .before .args .suite) ≡ false = sym (test .before .enciphers .ensures) ∙ test .if1 .left in
+    rw (c .before .before .copy .ensures, off)
+
+pub encipher-spec : {M : Type 1} → statement M
+encipher-spec =
+    tie.close
+    (tie.spec
+    (λ c κs. search needs)
+    (λ c κs. search needs)
+    (λ c. search needs)
+    (λ c κs. search needs)
+    (λ c κs. search needs)
+    (λ c. search needs)
+    returns
+    (λ c. search needs)
+    returns-2)

@@ -1,0 +1,122 @@
+// A whole message written, and one checked and taken apart.
+ghost use mathlib.Core.Path.{_≡_};
+ghost use Prim.Native.Nat.{_+_, _^_, _<_, _≤_};
+ghost use lib.ListN.{length};
+ghost use Rattle.octets.specs.Octets.{put};
+ghost use Rattle.magma.specs.Magma.{encrypted};
+ghost use Rattle.modes.specs.Modes.{firstSubkey, secondSubkey};
+ghost use Rattle.message.specs.Header.{readOf};
+ghost use Rattle.message.specs.Sealing.{enciphered, icvOf, sealed, openedAs, outputAfter};
+ghost use Rattle.message.specs.declared.header.Parsed.the-variants.{Read};
+ghost use Rattle.message.specs.Suite.{icvLengthOf};
+use crate::derivation;
+use crate::header;
+use crate::header::Header;
+use crate::suite::Suite;
+use modes::Subkeys;
+
+// What opening a message finds: a payload of so many bytes, or an ICV that is wrong.
+pub enum Opened {
+    Payload(usize),
+    Wrong,
+}
+
+// The message for a payload is written at the start of the output. Answers its length.
+pub fn seal(
+    suite: Suite,
+    key: &[u8],
+    flag: u8,
+    keyid: &[u8],
+    source: &[u8],
+    seqnum: u64,
+    payload: &[u8],
+    out: &mut [u8],
+) -> usize
+    requires { ⌜ (length (now key) ≡ 32) × (flag < 2) × (length (now source) ≤ 32) × (seqnum < 2 ^ 48) × (9 + length (now keyid) + length (now payload) + icvLengthOf suite ≤ length (now out)) × (length (now payload) ≤ 2 ^ 35) ⌝ }
+    ensures { λ r. ⌜ r ≡ length (sealed suite (now (key .entry)) flag (now (keyid .entry)) (now (source .entry)) seqnum (now (payload .entry))) ⌝ }
+    ensures { λ r. ⌜ now (out .exit) ≡ put (now (out .entry)) 0 (sealed suite (now (key .entry)) flag (now (keyid .entry)) (now (source .entry)) seqnum (now (payload .entry))) ⌝ }
+{
+    let base = magma::key_words(key);
+    let subkeys = modes::subkeys_of(&base);
+    header::write_header(flag, suite, keyid, seqnum, out);
+    let start = 9 + keyid.len();
+    let end = start + payload.len();
+    encipher(&base, subkeys, suite, source, seqnum, payload, out, start);
+    let icv = icv(&base, subkeys, suite, source, seqnum, &out[..end]);
+    octets::write(out, end, suite.icv_length(), icv);
+    end + suite.icv_length()
+}
+
+// The payload of a message whose header was read is written at the start of the output, if the ICV is right.
+pub fn open(header: Header, key: &[u8], source: &[u8], message: &[u8], out: &mut [u8]) -> Opened
+    requires { ⌜ (readOf (now message) ≡ Read header) × (length (now key) ≡ 32) × (length (now source) ≤ 32) × (length (now message) ≤ length (now out)) ⌝ }
+    ensures { λ r. ⌜ r ≡ openedAs header (now (key .entry)) (now (source .entry)) (now (message .entry)) ⌝ }
+    ensures { λ r. ⌜ now (out .exit) ≡ outputAfter header (now (key .entry)) (now (source .entry)) (now (message .entry)) (now (out .entry)) ⌝ }
+{
+    let base = magma::key_words(key);
+    let subkeys = modes::subkeys_of(&base);
+    let suite = header.suite;
+    let keyid = header.keyid;
+    let start = 9 + keyid.length();
+    let end = message.len() - suite.icv_length();
+    let icv = icv(
+        &base,
+        subkeys,
+        suite,
+        source,
+        header.seqnum,
+        &message[..end],
+    );
+    if octets::read(message, end, suite.icv_length()) != icv {
+        return Opened::Wrong;
+    }
+    encipher(
+        &base,
+        subkeys,
+        suite,
+        source,
+        header.seqnum,
+        &message[start..end],
+        out,
+        0,
+    );
+    Opened::Payload(end - start)
+}
+
+// The ICV of all that stands before it, as a number.
+fn icv(
+    base: &[u32; 8],
+    subkeys: Subkeys,
+    suite: Suite,
+    source: &[u8],
+    seqnum: u64,
+    front: &[u8],
+) -> u64
+    requires { ⌜ (subkeys .first ≡ firstSubkey 8 0x1b (encrypted (now base))) × (subkeys .second ≡ secondSubkey 8 0x1b (encrypted (now base))) × (length (now source) ≤ 32) ⌝ }
+    ensures { λ r. ⌜ r ≡ icvOf suite (now (base .entry)) (now (source .entry)) seqnum (now (front .entry)) ⌝ }
+{
+    let key = derivation::derived_key(base, subkeys, suite, source, seqnum, derivation::CHECK);
+    modes::check_value(&key, front) >> (8 * (8 - suite.icv_length() as u64))
+}
+
+// What the suite makes of a payload, enciphered or not, and back again, is written at `at`.
+fn encipher(
+    base: &[u32; 8],
+    subkeys: Subkeys,
+    suite: Suite,
+    source: &[u8],
+    seqnum: u64,
+    payload: &[u8],
+    out: &mut [u8],
+    at: usize,
+)
+    requires { ⌜ (subkeys .first ≡ firstSubkey 8 0x1b (encrypted (now base))) × (subkeys .second ≡ secondSubkey 8 0x1b (encrypted (now base))) × (length (now source) ≤ 32) × (at + length (now payload) ≤ length (now out)) × (length (now payload) ≤ 2 ^ 35) ⌝ }
+    ensures { λ _. ⌜ now (out .exit) ≡ put (now (out .entry)) at (enciphered suite (now (base .entry)) (now (source .entry)) seqnum (now (payload .entry))) ⌝ }
+{
+    if suite.enciphers() {
+        let key = derivation::derived_key(base, subkeys, suite, source, seqnum, derivation::CIPHER);
+        modes::counter(&key, (seqnum % 4294967296) as u32, payload, out, at);
+    } else {
+        octets::copy(payload, out, at);
+    }
+}

@@ -1,0 +1,9 @@
+-- `Window::floor` meets its contract: each return is the definition's difference.
+use borrow.Author.Needs.{needs}
+use Rattle.window.specs.Window.{floorAt}
+use Rattle.window.proofs.Window.floor.Statement.{statement}
+use Rattle.window.proofs.Window.floor.Tie as tie
+
+pub floor-spec : {M : Type 1} → statement M
+unfolding floorAt
+floor-spec = tie.close (tie.spec (λ c. search needs) (λ c. search needs) (λ c. search needs) (λ c. search needs) (λ c. search needs) (λ c. search needs))

@@ -1,0 +1,27 @@
+-- An entry's window with its two totals (01, "Key lookup, window and totals").
+use mathlib.Core.Bool.{Bool, _&&_}
+use Prim.Native.Nat.{ℕ, _+_, _*_}
+use lib.Dec.{leb}
+use Rattle.window.specs.Window.{Frame, View, floorOf, acceptOf, countOf, undamagedOf, freshOf}
+
+pub record Entry : Type 0 where
+  pub window : View
+  pub accepted : ℕ
+  pub bytes : ℕ
+
+-- "A fresh entry has highest 0, no mark, totals 0."
+abbrev pub freshEntry : Frame → Entry
+freshEntry f = record { window = freshOf f; accepted = 0; bytes = 0 }
+
+-- the entry after a message with number n and a payload of so many bytes: "Accepted grows by 1, bytes by the payload's length."
+abbrev pub taken : Entry → ℕ → ℕ → Entry
+taken e n payload = record { window = acceptOf (e .window) n; accepted = e .accepted + 1; bytes = e .bytes + payload }
+
+-- the damage rule but for the key data: that of the window; "accepted is below the number of marks, or above that number plus the floor; or
+-- bytes exceed 2,034 × accepted"
+unfoldable pub wholeOf : Entry → Bool
+wholeOf e =
+    undamagedOf (e .window)
+    && leb (countOf (e .window)) (e .accepted)
+    && leb (e .accepted) (countOf (e .window) + floorOf (e .window))
+    && leb (e .bytes) (2034 * e .accepted)

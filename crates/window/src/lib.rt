@@ -1,0 +1,137 @@
+// The window of accepted numbers, by value. `specs/Window.antt` says what it is; `words` does its arithmetic.
+mod words;
+
+ghost use mathlib.Core.Path.{_≡_};
+ghost use mathlib.Core.Bool.{true};
+ghost use Prim.Native.Nat.{_+_, _-_, _≤_, min, max};
+ghost use Rattle.window.specs.declared.Verdict.the-variants.{Admissible};
+ghost use Rattle.window.specs.Window.{viewOf, floorOf, verdictOf, acceptOf, countOf, undamagedOf};
+
+// The greatest number that a message can have: 2^48 - 1.
+pub const LAST: u64 = 281474976710655;
+
+// The largest Size of a window.
+pub const LARGEST_SIZE: u64 = 256;
+
+// Size, the highest number, and the marks: four words, the lowest first. The bit of value 2^i of the whole stands for highest - i.
+pub struct Window {
+    pub size: u64,
+    pub highest: u64,
+    pub marks: [u64; 4],
+}
+
+// What the window says of a number.
+pub enum Verdict {
+    Below,
+    Marked,
+    Admissible,
+}
+
+impl Window {
+    // The least number that is not too old.
+    pub fn floor(self) -> u64
+        ensures { λ r. ⌜ r ≡ floorOf (viewOf self) ⌝ }
+    {
+        let size = self.size;
+        let highest = self.highest;
+        if size == 0 {
+            return highest;
+        }
+        if highest < size - 1 {
+            return 0;
+        }
+        highest - (size - 1)
+    }
+
+    // Whether n may be accepted, and why not.
+    pub fn admissible(self, n: u64) -> Verdict
+        ensures { λ r. ⌜ r ≡ verdictOf (viewOf self) n ⌝ }
+    {
+        let marks = self.marks;
+        if n < self.floor() {
+            return Verdict::Below;
+        }
+        if self.highest < n {
+            return Verdict::Admissible;
+        }
+        if words::has_bit(marks, self.highest - n) {
+            return Verdict::Marked;
+        }
+        Verdict::Admissible
+    }
+
+    // The window once n, which it finds admissible, is accepted.
+    pub fn accept(self, n: u64) -> Window
+        requires { ⌜ (undamagedOf (viewOf self) ≡ true) × (verdictOf (viewOf self) n ≡ Admissible) ⌝ }
+        ensures { λ r. ⌜ viewOf r ≡ acceptOf (viewOf self) n ⌝ }
+    {
+        let size = self.size;
+        let marks = self.marks;
+        let top = larger(self.highest, n);
+        let rise = smaller(top - self.highest, size);
+        let raised = Window {
+            size,
+            highest: top,
+            marks,
+        };
+        let moved = words::cut(words::shifted(marks, rise), raised.reach());
+        let marked = words::with_bit(moved, top - n);
+        Window {
+            size,
+            highest: top,
+            marks: marked,
+        }
+    }
+
+    // Whether the damage rule finds nothing in the window.
+    pub fn undamaged(self) -> bool
+        ensures { λ r. ⌜ r ≡ undamagedOf (viewOf self) ⌝ }
+    {
+        let marks = self.marks;
+        if self.size == 0 {
+            return false;
+        }
+        if LARGEST_SIZE < self.size {
+            return false;
+        }
+        if LAST < self.highest {
+            return false;
+        }
+        if !words::within(marks, self.reach()) {
+            return false;
+        }
+        if self.highest == 0 {
+            return true;
+        }
+        words::has_bit(marks, 0)
+    }
+
+    // How many numbers are marked.
+    pub fn count(self) -> u64
+        ensures { λ r. ⌜ (r ≡ countOf (viewOf self)) × (r ≤ 256) ⌝ }
+    {
+        let marks = self.marks;
+        words::count(marks)
+    }
+
+    // How many numbers stand from the floor to the highest.
+    fn reach(self) -> u64
+        ensures { λ r. ⌜ r ≡ self .highest + 1 - floorOf (viewOf self) ⌝ }
+    {
+        self.highest - self.floor() + 1
+    }
+}
+
+// The larger of two numbers.
+fn larger(a: u64, b: u64) -> u64
+    ensures { λ r. ⌜ r ≡ max a b ⌝ }
+{
+    if a < b { b } else { a }
+}
+
+// The smaller of two numbers.
+fn smaller(a: u64, b: u64) -> u64
+    ensures { λ r. ⌜ r ≡ min a b ⌝ }
+{
+    if a < b { a } else { b }
+}
