@@ -1,0 +1,45 @@
+-- `gateway::text::write_moved` meets its contract: its four lines stand behind one another. Assumes nothing.
+use native.Mathlib.Omega.{arith}
+use borrow.Author.Needs.{needs}
+use Rattle.gateway.proofs.Printed.{moved-written}
+use Rattle.gateway.proofs.text.write_moved.Statement.{statement}
+use Rattle.gateway.proofs.text.write_moved.Tie as tie
+
+returns : tie.Need-returns
+returns c =
+    let fourth = c .before .before in
+    let third = fourth .before .before .before .before .before .before in
+    let second = third .before .before .before .before .before .before in
+    let first = second .before .before .before .before .before .before in
+    let start = first .before .before .before .before .before .before in
+    let a = start .args in
+    let e₁ = first .write-hex-line .ensures in
+    let e₂ = second .write-hex-line2 .ensures in
+    let e₃ = third .write-decimal-line .ensures in
+    let e₄ = fourth .write-decimal-line2 .ensures in
+    moved-written (a .slot .now) (start .pre .0) (λ i. first .before .before .before .before .before .shared-slice-known .given i .fits) (a .out .now) (a .at) (omega (arith, start .pre))
+    (e₁ .0 .0, e₁ .1) (e₂ .0 .0, e₂ .1) (third .before .before .read .ensures .0) (e₃ .0 .0, e₃ .1) (fourth .before .before .read2 .ensures .0) (e₄ .0 .0, e₄ .1)
+
+pub write-moved-spec : {M : Type 1} → statement M
+write-moved-spec =
+    tie.close
+    (tie.spec
+    (λ c. search needs)
+    (λ c. search needs)
+    (λ c. search needs)
+    (λ c. search needs)
+    (λ c. search needs)
+    (λ c κs. search needs)
+    (λ c. search needs)
+    (λ c. search needs)
+    (λ c. search needs)
+    (λ c. search needs)
+    (λ c κs. search needs)
+    (λ c. search needs)
+    (λ c κs. search needs)
+    (λ c κs. search needs)
+    (λ c. search needs)
+    (λ c κs. search needs)
+    (λ c κs. search needs)
+    (λ c. search needs)
+    returns)
