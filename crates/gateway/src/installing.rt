@@ -12,6 +12,7 @@ use message::answer;
 use message::answer::Answer;
 use message::key_data;
 
+// Replies 13, 14 and 15 in that order; else a fresh entry in the lowest free slot.
 pub fn install_in(
     table: &mut [u8],
     flag: u8,
@@ -46,6 +47,7 @@ pub fn install_in(
     done_at(slot)
 }
 
+// Reply 16, or the slot cleared.
 pub fn remove_in(table: &mut [u8], slot: usize) -> Answer
     requires { ⌜ length (now table) ≡ 4608 ⌝ }
     ensures { λ r. ⌜ r ≡ removed (now (table .entry)) slot .answer ⌝ }
@@ -62,6 +64,7 @@ pub fn remove_in(table: &mut [u8], slot: usize) -> Answer
     done_at(slot)
 }
 
+// Done at a slot.
 fn done_at(slot: usize) -> Answer
     ensures { λ r. ⌜ r ≡ doneAt slot ⌝ }
 {

@@ -1,0 +1,50 @@
+// 01's program: the key data of appendix A.2 is installed with Size 4, one message is read from standard input, and the reply and the entry
+// are printed.
+use libc::STDIN_FILENO;
+use libc::STDOUT_FILENO;
+
+const FLAG: u8 = 1;
+
+const SUITE: u8 = 2;
+
+const SIZE: u64 = 4;
+
+// One byte more than a message may have, so that a longer one is seen to be so.
+const ROOM: usize = 2049;
+
+// What payload and listing are given.
+const OUTPUT: usize = 2048;
+
+fn main() {
+    let source = appendix::SOURCE;
+    let mut table = [0u8; gateway::TABLE];
+    install(&mut table, &source);
+    let mut message = [0u8; ROOM];
+    let length = io::read_full(STDIN_FILENO, &mut message);
+    let reply = receive(&mut table, &message[..length], &source);
+    io::write_all(STDOUT_FILENO, b"answer=");
+    io::print_decimal(STDOUT_FILENO, reply);
+    io::write_all(STDOUT_FILENO, b"\n");
+    let mut lines = [0u8; OUTPUT];
+    show(&table, &mut lines);
+}
+
+// Appendix A.2's key data is installed, for its identifier.
+fn install(table: &mut [u8; gateway::TABLE], source: &[u8]) {
+    let key = appendix::KEY;
+    gateway::install(table, FLAG, b"\x30", source, SUITE, &key, SIZE);
+}
+
+// The reply to a message that came with an identifier.
+fn receive(table: &mut [u8; gateway::TABLE], message: &[u8], source: &[u8]) -> u64 {
+    let mut payload = [0u8; OUTPUT];
+    let answer = gateway::receive(table, message, source, &mut payload);
+    answer.reply
+}
+
+// The entry's lines are printed, from a buffer that is lent for them.
+fn show(table: &[u8; gateway::TABLE], lines: &mut [u8]) {
+    let answer = gateway::listing(table, 0, lines);
+    let length = answer.length;
+    io::write_all(STDOUT_FILENO, &lines[..length]);
+}

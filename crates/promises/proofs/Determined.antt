@@ -1,0 +1,50 @@
+-- Two results that a public function's contract allows are equal: the answer, the table or record after it, and every byte of the output.
+-- Assumes nothing.
+use mathlib.Core.Path.{_≡_, sym, _∙_}
+use mathlib.Core.List.{List}
+use Prim.Native.Nat.{ℕ}
+use Rattle.message.specs.declared.answer.Answer.{Answer}
+use Rattle.gateway.specs.Install.{Left, installed, removed}
+use Rattle.gateway.specs.Listing.{Listed, listed}
+use Rattle.gateway.specs.Receive.{Received, received}
+use Rattle.sender.specs.Protect.{Protects}
+use Rattle.sender.specs.declared.Sender.{Sender}
+
+same : {A : Type 0} {x y z : A} → x ≡ z → y ≡ z → x ≡ y
+same p q = p ∙ sym q
+
+-- what the contracts say of an answer and of what was lent, over what the definition leaves
+pub record IsLeft (l : Left) (answer : Answer) (table : List ℕ) : Type 0 where
+  pub answers : answer ≡ l .answer
+  pub leaves : table ≡ l .table
+
+pub record IsReceived (r : Received) (answer : Answer) (table out : List ℕ) : Type 0 where
+  pub answers : answer ≡ r .answer
+  pub leaves : table ≡ r .table
+  pub writes : out ≡ r .out
+
+pub record IsListed (l : Listed) (answer : Answer) (out : List ℕ) : Type 0 where
+  pub answers : answer ≡ l .answer
+  pub writes : out ≡ l .out
+
+module _ {a b : Answer} {t u : List ℕ} where
+  left-determined : {l : Left} → IsLeft l a t → IsLeft l b u → (a ≡ b) × (t ≡ u)
+  left-determined p q = (same (p .answers) (q .answers), same (p .leaves) (q .leaves))
+
+  pub install-determined : (table : List ℕ) (flag : ℕ) (keyId source : List ℕ) (cs : ℕ) (key : List ℕ) (size : ℕ)
+      → IsLeft (installed table flag keyId source cs key size) a t → IsLeft (installed table flag keyId source cs key size) b u → (a ≡ b) × (t ≡ u)
+  install-determined table flag keyId source cs key size = left-determined
+
+  pub remove-determined : (table : List ℕ) (i : ℕ) → IsLeft (removed table i) a t → IsLeft (removed table i) b u → (a ≡ b) × (t ≡ u)
+  remove-determined table i = left-determined
+
+  pub listing-determined : (table : List ℕ) (i : ℕ) (out : List ℕ) → IsListed (listed table i out) a t → IsListed (listed table i out) b u → (a ≡ b) × (t ≡ u)
+  listing-determined table i out p q = (same (p .answers) (q .answers), same (p .writes) (q .writes))
+
+  pub receive-determined : (table message source out : List ℕ) {x y : List ℕ}
+      → IsReceived (received table message source out) a t x → IsReceived (received table message source out) b u y → (a ≡ b) × (t ≡ u) × (x ≡ y)
+  receive-determined table message source out p q = (same (p .answers) (q .answers), same (p .leaves) (q .leaves), same (p .writes) (q .writes))
+
+  pub protect-determined : (s : Sender) (payload out : List ℕ) {x y : Sender}
+      → Protects s payload out a x t → Protects s payload out b y u → (a ≡ b) × (x ≡ y) × (t ≡ u)
+  protect-determined s payload out p q = (same (p .answers) (q .answers), same (p .moves) (q .moves), same (p .writes) (q .writes))

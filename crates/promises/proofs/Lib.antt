@@ -1,0 +1,4 @@
+pub mod Determined
+pub mod Refusals
+pub mod Replies
+pub mod RoundTrip

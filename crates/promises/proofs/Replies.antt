@@ -1,0 +1,170 @@
+-- Each reply is given exactly in its case: the reply is the first that fits. And a refusal changes nothing.
+-- Assumes nothing.
+use mathlib.Core.Path.{_≡_, refl, sym, ap, _∙_}
+use mathlib.Core.Bool.{Bool, true, false, cond, not, _||_, _&&_}
+use mathlib.Core.List.{List}
+use Prim.Native.Nat.{ℕ, _+_, _-_, _^_}
+use borrow.Author.Tests.{eqb-true}
+use lib.Dec.{eqb, leb, ltb}
+use lib.ListN.{length}
+use Rattle.window.specs.Window.{floorOf, marked, judge}
+use Rattle.message.specs.KeyId.{lengthOf}
+use Rattle.message.specs.KeyData.{known, soundOf}
+use Rattle.message.specs.Suite.{suiteOf, icvLengthOf, numberOf}
+use Rattle.message.specs.Header.{flagIn, versionIn, csIn, keyIdIn, seqNumIn, readOf, readAs}
+use Rattle.message.specs.Sealing.{right}
+use Rattle.message.specs.declared.header.Header.{Header}
+use Rattle.message.specs.declared.header.Parsed.the-variants.{Read, BadLength, BadVersion, TooShort}
+use Rattle.message.specs.declared.suite.Numbered.{Numbered}
+use Rattle.message.specs.declared.suite.Numbered.the-variants.{Known, Unknown}
+use Rattle.message.specs.declared.suite.Suite.{Suite}
+use Rattle.message.specs.declared.suite.Suite.the-variants.{MagmaCtr, MagmaNull}
+use Rattle.gateway.specs.Install.{Left, installed, removed, unlessTwin, placed, freshSlot}
+use Rattle.gateway.specs.Receive.{Received, received, parsed, led, arrived, judged, checked, handedOut, kept}
+use Rattle.gateway.specs.Lookup.{leadsTo, firstFree}
+use Rattle.gateway.specs.Record.{undamaged}
+use Rattle.gateway.specs.Table.{slotOf, occupied, csOf, sourceOf, keyOf, windowOf}
+use Rattle.gateway.specs.declared.lookup.Found.{Found}
+use Rattle.gateway.specs.declared.lookup.Found.the-variants.{At, Nothing}
+use Rattle.numbers.proofs.Tests.{and-left}
+use Rattle.message.proofs.Soundness as keys
+use Rattle.sender.specs.Protect.{keyIdOf, soundRecord, Outcome, refusal, sent, longestPayload, numbered, outcomeOf}
+use Rattle.sender.specs.declared.Sender.{Sender}
+use Rattle.sender.proofs.Records.{sound-facts}
+use Rattle.promises.specs.Replies.{firstOf, nothing, icvIn, ledTo, slotIn, rightIn, receiveReplies, installReplies, removeReplies, protectReplies}
+
+-- a choice between two, seen through a function or by the opposite test
+pushed : {A B : Type 0} (f : A → B) (b : Bool) (x y : A) → f (cond b x y) ≡ cond b (f x) (f y)
+pushed f true x y = refl
+pushed f false x y = refl
+
+flipped : {A : Type 0} (b : Bool) (x y : A) → cond (not b) x y ≡ cond b y x
+flipped true x y = refl
+flipped false x y = refl
+
+-- ---- install and remove
+
+pub remove-reply : (t : List ℕ) (i : ℕ) → removed t i .answer .reply ≡ firstOf (removeReplies t i)
+unfolding removed removeReplies
+remove-reply t i =
+    let b = ltb i 16 && occupied (slotOf t i) in
+    pushed (λ (l : Left). l .answer .reply) b _ _ ∙ sym (flipped b 16 0)
+
+module _ (t fresh : List ℕ) where
+  free-reply : (g : Found) → placed t fresh g .answer .reply ≡ cond (nothing g) 15 0
+  free-reply (At i) = refl
+  free-reply Nothing = refl
+
+  twin-reply : (f : Found) → unlessTwin t fresh f .answer .reply ≡ cond (not (nothing f)) 14 (cond (nothing (firstFree t)) 15 0)
+  twin-reply (At i) = refl
+  twin-reply Nothing = free-reply (firstFree t)
+
+pub install-reply : (t : List ℕ) (flag : ℕ) (keyId source : List ℕ) (cs : ℕ) (key : List ℕ) (size : ℕ)
+    → installed t flag keyId source cs key size .answer .reply ≡ firstOf (installReplies t flag keyId source cs key size)
+unfolding installed installReplies
+install-reply t flag keyId source cs key size =
+    let b = soundOf flag keyId source cs key && leb 1 size && leb size 256 in
+    pushed (λ (l : Left). l .answer .reply) b _ _
+    ∙ rw (twin-reply t (freshSlot flag keyId source cs key size) (leadsTo t flag keyId source)) (sym (flipped b 13 _))
+
+-- ---- receive
+
+-- a number's suite has that number
+suite-number : (cs : ℕ) (s : Suite) → Known s ≡ suiteOf cs → numberOf s ≡ cs
+unfolding suiteOf
+suite-number cs s = by (eqb cs 1) refl (eqb cs 2) refl
+  where
+    by : (a : Bool) → eqb cs 1 ≡ a → (b : Bool) → eqb cs 2 ≡ b → Known s ≡ cond a (Known MagmaCtr) (cond b (Known MagmaNull) Unknown) → numberOf s ≡ cs
+    by true p b q e = let f : s ≡ MagmaCtr = cc in ap numberOf f ∙ sym (eqb-true cs 1 p)
+    by false p true q e = let f : s ≡ MagmaNull = cc in ap numberOf f ∙ sym (eqb-true cs 2 q)
+    by false p false q e = cc
+
+-- what the slot says: replies 7 to 11
+module _ (t : List ℕ) (i : ℕ) (h : Header) (m out : List ℕ) where
+  icv-reply : checked t i h m out .answer .reply ≡ cond (not (right h (keyOf (slotOf t i)) (sourceOf (slotOf t i)) m)) 11 0
+  unfolding checked handedOut
+  icv-reply =
+      let r = right h (keyOf (slotOf t i)) (sourceOf (slotOf t i)) m in
+      pushed (λ (l : Received). l .answer .reply) r _ _ ∙ sym (flipped r 11 0)
+
+  by-tests : (u c b k : Bool)
+      → cond u (cond c (judged (judge b k) t i h m out) (kept t out 8)) (kept t out 7) .answer .reply
+      ≡ cond (not u) 7 (cond (not c) 8 (cond b 9 (cond k 10 (checked t i h m out .answer .reply))))
+  by-tests false c b k = refl
+  by-tests true false b k = refl
+  by-tests true true true k = refl
+  by-tests true true false true = refl
+  by-tests true true false false = refl
+
+  slot-reply : arrived t i h m out .answer .reply
+      ≡ cond (not (undamaged (slotOf t i))) 7
+      (cond (not (eqb (csOf (slotOf t i)) (numberOf (h .suite)))) 8
+      (cond (ltb (h .seqnum) (floorOf (windowOf (slotOf t i)))) 9
+      (cond (marked (windowOf (slotOf t i)) (h .seqnum)) 10
+      (cond (not (right h (keyOf (slotOf t i)) (sourceOf (slotOf t i)) m)) 11 0))))
+  unfolding arrived
+  slot-reply =
+      let s = slotOf t i in
+      by-tests (undamaged s) (eqb (csOf s) (numberOf (h .suite))) (ltb (h .seqnum) (floorOf (windowOf s))) (marked (windowOf s) (h .seqnum)) ∙ rw icv-reply
+
+module _ (t m source out : List ℕ) where
+  -- from reply 6 on, of what was found
+  abbrev onward : Found → ℕ
+  onward f =
+      let s = slotIn t f in
+      cond (nothing f) 6
+      (cond (not (undamaged s)) 7
+      (cond (not (eqb (csOf s) (csIn m))) 8
+      (cond (ltb (seqNumIn m) (floorOf (windowOf s))) 9
+      (cond (marked (windowOf s) (seqNumIn m)) 10
+      (cond (not (rightIn (readOf m) s m)) 11 0)))))
+
+  found-reply : (h : Header) → readOf m ≡ Read h → h .seqnum ≡ seqNumIn m → numberOf (h .suite) ≡ csIn m → (f : Found) → led f t h m out .answer .reply ≡ onward f
+  found-reply h e n c Nothing = refl
+  found-reply h e n c (At i) = slot-reply t i h m out ∙ rw (e, ← n, c)
+
+  header-reply : (b v : Bool) (n : Numbered) → readOf m ≡ cond b BadLength (cond v (readAs n m) BadVersion) → n ≡ suiteOf (csIn m)
+      → parsed (cond b BadLength (cond v (readAs n m) BadVersion)) t m source out .answer .reply
+      ≡ cond b 2 (cond (not v) 3 (cond (not (known n)) 4 (cond (ltb (length m) (9 + lengthOf (keyIdIn m) + icvIn n)) 5 (onward (ledTo t m source)))))
+  header-reply true v n e q = refl
+  header-reply false false n e q = refl
+  header-reply false true Unknown e q = refl
+  header-reply false true (Known s) e q = by (ltb (length m) (9 + lengthOf (keyIdIn m) + icvLengthOf s)) e
+    where
+      h : Header
+      h = record { flag = flagIn m; suite = s; keyid = keyIdIn m; seqnum = seqNumIn m }
+
+      by : (c : Bool) → readOf m ≡ cond c TooShort (Read h) → parsed (cond c TooShort (Read h)) t m source out .answer .reply ≡ cond c 5 (onward (ledTo t m source))
+      by true e = refl
+      by false e = found-reply h e refl (suite-number (csIn m) s q) (ledTo t m source)
+
+  pub receive-reply : received t m source out .answer .reply ≡ firstOf (receiveReplies t m source out)
+  unfolding received receiveReplies readOf
+  receive-reply =
+      pushed (λ (l : Received). l .answer .reply) (ltb (length out) 2048) _ _
+      ∙ ap (cond (ltb (length out) 2048) 1) (header-reply (ltb (length m) 14 || ltb 2048 (length m)) (eqb (versionIn m) 0) (suiteOf (csIn m)) refl refl)
+
+-- ---- protect
+
+module _ (s : Sender) (payload out : List ℕ) where
+  -- sound key data names a suite
+  suite-there : soundRecord (s .keys) ≡ true → known (suiteOf (s .keys .suite)) ≡ true
+  suite-there e = keys.sound-facts _ _ _ _ _ (sound-facts (s .keys) e .keys) .suite-known
+
+  by-suite : (n : Numbered) → n ≡ suiteOf (s .keys .suite) → (b : Bool) → (soundRecord (s .keys) && ltb (s .current) (2 ^ 48)) ≡ b
+      → cond b (numbered n s payload out) (refusal 7 s out) .answer .reply
+      ≡ cond (not b) 7 (cond (ltb (2048 - (9 + length (keyIdOf (s .keys)) + icvIn n)) (length payload)) 2 (cond (eqb (s .current) (2 ^ 48 - 1)) 12 0))
+  unfolding sent
+  by-suite n q false p = refl
+  by-suite Unknown q true p =
+      let e : _≡_ {A = Bool} false true = ap known q ∙ suite-there (and-left (soundRecord (s .keys)) (ltb (s .current) (2 ^ 48)) p) in
+      cc
+  by-suite (Known suite) q true p =
+      pushed (λ (o : Outcome). o .answer .reply) (ltb (longestPayload suite (s .keys)) (length payload)) _ _
+      ∙ ap (cond (ltb (longestPayload suite (s .keys)) (length payload)) 2) (pushed (λ (o : Outcome). o .answer .reply) (eqb (s .current) (2 ^ 48 - 1)) _ _)
+
+  pub protect-reply : outcomeOf s payload out .answer .reply ≡ firstOf (protectReplies s payload out)
+  unfolding outcomeOf protectReplies
+  protect-reply =
+      pushed (λ (o : Outcome). o .answer .reply) (ltb (length out) 2048) _ _
+      ∙ ap (cond (ltb (length out) 2048) 1) (by-suite (suiteOf (s .keys .suite)) refl (soundRecord (s .keys) && ltb (s .current) (2 ^ 48)) refl)

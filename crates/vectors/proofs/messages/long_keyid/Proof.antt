@@ -1,0 +1,17 @@
+-- `vectors::messages::long_keyid` meets what its callee requires. Assumes nothing.
+use native.Mathlib.Omega.{arith}
+use lib.ListN.{length-take}
+use borrow.Author.Needs.{needs}
+use Rattle.vectors.proofs.messages.long_keyid.Statement.{statement}
+use Rattle.vectors.proofs.messages.long_keyid.Tie as tie
+
+pub long-keyid-spec : {M : Type 1} → statement M
+long-keyid-spec =
+    tie.close
+    (tie.spec
+    (λ c. search needs)
+    (λ c. search needs)
+    (λ c. search needs)
+    (λ c. simp length-take (omega arith))
+    (λ c κs. simp length-take (omega arith))
+    (λ c. search needs))
