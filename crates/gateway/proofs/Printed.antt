@@ -8,9 +8,9 @@ use native.Mathlib.Nat.{add-zero, zero-add, add-suc}
 use native.Mathlib.Omega.{arith}
 use lib.Dec.{lit<}
 use lib.ListN.{length, getD, take, drop, length-take, length-drop, drop-of-length-le}
-use lib.Seq.{length-take-le, drop-append-le, drop-at, drop-drop, getD-drop, take-add}
+use lib.Seq.{length-take-le, drop-append-le, drop-at, drop-drop, take-add}
 use Rattle.octets.specs.Octets.{bigEndian, bytesOf, part, put}
-use Rattle.octets.proofs.BigEndian.{Bytes, length-bytes, bytes-number}
+use Rattle.octets.proofs.BigEndian.{Bytes, bytes-drop, length-bytes, bytes-number}
 use Rattle.octets.proofs.Parts.{length-part}
 use Rattle.message.proofs.KeyIds.{length-most}
 use Rattle.gateway.specs.Table.{flagOf, csOf, keyIdOf, sourceOf}
@@ -44,19 +44,16 @@ pub part-most : (at n : ℕ) (l : List ℕ) → length (take (at + n - at) (drop
 part-most at n l = omega (arith, length-take (at + n - at) (drop at l))
 
 module _ (s : List ℕ) (long : length s ≡ 288) (b : Bytes s) where
-  behind : (k : ℕ) → Bytes (drop k s)
-  behind k i = rw (getD-drop k s i 0) (b (k + i))
-
   pub highest-bytes : bytesOf 6 (bigEndian 8 (drop 205 s)) ≡ part 207 6 s
-  highest-bytes = last-bytes 2 6 (drop 205 s) (rw (length-drop 205 s) (omega arith)) (behind 205) ∙ ap (take 6) (drop-drop 2 205 s)
+  highest-bytes = last-bytes 2 6 (drop 205 s) (rw (length-drop 205 s) (omega arith)) (bytes-drop 205 s b) ∙ ap (take 6) (drop-drop 2 205 s)
 
   pub marks-bytes : bytesOf 32 (bigEndian 32 (drop 213 s)) ≡ part 213 32 s
-  marks-bytes = bytes-number 32 (drop 213 s) (rw (length-drop 213 s) (omega arith)) (behind 213)
+  marks-bytes = bytes-number 32 (drop 213 s) (rw (length-drop 213 s) (omega arith)) (bytes-drop 213 s b)
 
   pub keyid-short : undamaged s ≡ true → getD s 3 0 ≤ 128
   keyid-short u =
       let n : length (keyIdOf s) ≡ getD s 3 0 = length-part 4 (getD s 3 0) s (omega (arith, b 3)) in
-      let first : getD (keyIdOf s) 0 0 < 256 = bytes-front (getD s 3 0) (drop 4 s) (behind 4) 0 in
+      let first : getD (keyIdOf s) 0 0 < 256 = bytes-front (getD s 3 0) (drop 4 s) (bytes-drop 4 s b) 0 in
       omega (arith, undamaged-sound s u .keyid-length, length-most (getD (keyIdOf s) 0 0) 0 first)
 
   -- the lines that the arrivals moved

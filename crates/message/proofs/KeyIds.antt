@@ -39,8 +39,10 @@ length-anywhere first at =
     (λ h. ap lengthOf (starts-absent first 0 h))
     (λ h. ap lengthOf (starts-long first 0 h))
 
-pub length-least : (first at : ℕ) → 1 ≤ lengthOf (keyIdOf first at)
-length-least first at = each first at (λ (k : KeyId). 1 ≤ lengthOf k) (λ h. omega arith) (λ h. omega arith) (λ h. omega arith)
+pub length-least : (k : KeyId) → 1 ≤ lengthOf k
+length-least Absent = omega arith
+length-least (Short value) = omega arith
+length-least (Long count start) = omega arith
 
 pub length-most : (first at : ℕ) → first < 256 → lengthOf (keyIdOf first at) ≤ 128
 length-most first at b = each first at (λ (k : KeyId). lengthOf k ≤ 128) (λ h. omega arith) (λ h. omega arith) (λ h. omega arith)

@@ -55,7 +55,7 @@ unfolding bytesOf
 read-written flag s keyId seqNum rest w enough short =
     let m = headerBytes flag s keyId seqNum ++ rest in
     let first = getD keyId 0 0 in
-    let some : 1 ≤ length keyId = rw (w .keyid-length) (length-least first 0) in
+    let some : 1 ≤ length keyId = rw (w .keyid-length) (length-least (keyIdOf first 0)) in
     let long : length m ≡ 9 + length keyId + length rest = length-append (headerBytes flag s keyId seqNum) rest ∙ rw (header-length flag s keyId seqNum) in
     let small : flag * 2 ^ 15 < 2 ^ 16 = omega arith in
     let same : flag * 2 ^ 15 / 2 ^ 15 ≡ flag = omega arith in

@@ -7,9 +7,8 @@ use native.Mathlib.Omega.{arith}
 use lib.Bits.{xor-lt}
 use lib.Dec.{eqb, lit<}
 use lib.ListN.{length, drop}
-use lib.Seq.{getD-drop}
 use Rattle.octets.specs.Octets.{bytesOf}
-use Rattle.octets.proofs.BigEndian.{Bytes, number-lt, bytes-append, bytes-small}
+use Rattle.octets.proofs.BigEndian.{Bytes, bytes-drop, number-lt, bytes-append, bytes-small}
 use Rattle.magma.specs.Magma.{encrypted}
 use Rattle.magma.proofs.Widths.{encrypted-lt}
 use Rattle.modes.specs.Modes.{doubled, firstSubkey, secondSubkey, block, before, chained, lastKey, checkWith, magmaCheck}
@@ -30,7 +29,7 @@ module _ (bytes : List ℕ) (small : Bytes bytes) where
   block-lt : (k : ℕ) → block 8 bytes k < 2 ^ 64
   unfolding block bytesOf
   block-lt k =
-      number-lt 8 (drop (8 * k) (bytes ++ (128 ∷ []))) (λ i. rw getD-drop (bytes-append bytes (128 ∷ []) small (bytes-small 1 128) _))
+      number-lt 8 (drop (8 * k) (bytes ++ (128 ∷ []))) (bytes-drop (8 * k) (bytes ++ (128 ∷ [])) (bytes-append bytes (128 ∷ []) small (bytes-small 1 128)))
 
   module _ (E : ℕ → ℕ) (keeps : (x : ℕ) → x < 2 ^ 64 → E x < 2 ^ 64) where
     chained-lt : (k : ℕ) → chained 8 E bytes k < 2 ^ 64

@@ -18,6 +18,9 @@ use Rattle.octets.specs.Octets.{bigEndian, bytesOf}
 abbrev pub Bytes : List ℕ → Type 0
 Bytes l = (i : ℕ) → getD l i 0 < 256
 
+pub bytes-drop : (n : ℕ) (l : List ℕ) → Bytes l → Bytes (drop n l)
+bytes-drop n l b i = rw (getD-drop n l i 0) (b (n + i))
+
 -- a number that grows by a byte
 pub grown : (n x y : ℕ) → x < 2 ^ (8 * n) → y < 256 → x * 256 + y < 2 ^ (8 * suc n)
 grown n x y h k = omega (arith, width 8 n)

@@ -1,13 +1,18 @@
 -- Two results that a public function's contract allows are equal: the answer, the table or record after it, and every byte of the output.
 -- Assumes nothing.
-use mathlib.Core.Path.{_≡_, sym, _∙_}
+use mathlib.Core.Path.{_≡_, sym, ap, _∙_}
 use mathlib.Core.List.{List}
-use Prim.Native.Nat.{ℕ}
+use Prim.Native.Nat.{ℕ, _*_, _/_, _%_, _^_}
+use lib.ListN.{length}
+use lib.Seq.{ext-getD}
+use Rattle.numbers.proofs.FromDigits.{Digits, digit-at}
 use Rattle.message.specs.declared.answer.Answer.{Answer}
 use Rattle.gateway.specs.Install.{Left, installed, removed}
 use Rattle.gateway.specs.Listing.{Listed, listed}
 use Rattle.gateway.specs.Receive.{Received, received}
-use Rattle.sender.specs.Protect.{Protects}
+use Rattle.window.specs.Window.{View, viewOf}
+use Rattle.window.specs.declared.Window.{Window}
+use Rattle.sender.specs.Protect.{Protects, withNumber}
 use Rattle.sender.specs.declared.Sender.{Sender}
 
 same : {A : Type 0} {x y z : A} → x ≡ z → y ≡ z → x ≡ y
@@ -48,3 +53,25 @@ module _ {a b : Answer} {t u : List ℕ} where
   pub protect-determined : (s : Sender) (payload out : List ℕ) {x y : Sender}
       → Protects s payload out a x t → Protects s payload out b y u → (a ≡ b) × (x ≡ y) × (t ≡ u)
   protect-determined s payload out p q = (same (p .answers) (q .answers), same (p .moves) (q .moves), same (p .writes) (q .writes))
+
+  -- by value the number comes back, and the record with it is what the contract speaks of
+  pub by-value-determined : (s : Sender) (payload out : List ℕ) {m n : ℕ}
+      → Protects s payload out a (withNumber s m) t → Protects s payload out b (withNumber s n) u → (a ≡ b) × (m ≡ n) × (t ≡ u)
+  by-value-determined s payload out p q =
+      let d = protect-determined s payload out p q in
+      (d .0, ap (λ (x : Sender). x .current) (d .1), d .2)
+
+-- ---- windows
+
+-- A window's contracts speak of the number that its four words write; there is one window for it.
+pub record FourWords (w : Window) : Type 0 where
+  pub four : length (w .marks) ≡ 4
+  pub words : Digits 64 (w .marks)
+
+pub window-determined : {v w : Window} → FourWords v → FourWords w → viewOf v ≡ viewOf w → v ≡ w
+window-determined {v} {w} p q e =
+    let marks : v .marks ≡ w .marks =
+    ext-getD 0 (v .marks) (w .marks) (same (p .four) (q .four))
+    (λ j h. sym (digit-at 64 (v .marks) (p .words) j) ∙ ap (λ (x : View). x .marks / 2 ^ (64 * j) % 2 ^ 64) e ∙ digit-at 64 (w .marks) (q .words) j) in
+    ap (λ (m : List ℕ). record { size = v .size; highest = v .highest; marks = m }) marks
+    ∙ ap (λ (x : View). record { size = x .frame .size; highest = x .highest; marks = w .marks }) e

@@ -1,4 +1,10 @@
+pub mod Cascade
+pub mod Counting
 pub mod Determined
+pub mod Held
+pub mod History
 pub mod Refusals
 pub mod Replies
 pub mod RoundTrip
+pub mod Runs
+pub mod Steps

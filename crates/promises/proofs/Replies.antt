@@ -1,4 +1,4 @@
--- Each reply is given exactly in its case: the reply is the first that fits. And a refusal changes nothing.
+-- Each reply is given exactly in its case: the reply is the first that fits.
 -- Assumes nothing.
 use mathlib.Core.Path.{_≡_, refl, sym, ap, _∙_}
 use mathlib.Core.Bool.{Bool, true, false, cond, not, _||_, _&&_}
@@ -8,6 +8,8 @@ use borrow.Author.Tests.{eqb-true}
 use lib.Dec.{eqb, leb, ltb}
 use lib.ListN.{length}
 use Rattle.window.specs.Window.{floorOf, marked, judge}
+use Rattle.octets.specs.Octets.{put}
+use Rattle.message.specs.Answer.{refused}
 use Rattle.message.specs.KeyId.{lengthOf}
 use Rattle.message.specs.KeyData.{known, soundOf}
 use Rattle.message.specs.Suite.{suiteOf, icvLengthOf, numberOf}
@@ -19,6 +21,7 @@ use Rattle.message.specs.declared.suite.Numbered.{Numbered}
 use Rattle.message.specs.declared.suite.Numbered.the-variants.{Known, Unknown}
 use Rattle.message.specs.declared.suite.Suite.{Suite}
 use Rattle.message.specs.declared.suite.Suite.the-variants.{MagmaCtr, MagmaNull}
+use Rattle.gateway.specs.Listing.{Listed, listed, listingOf}
 use Rattle.gateway.specs.Install.{Left, installed, removed, unlessTwin, placed, freshSlot}
 use Rattle.gateway.specs.Receive.{Received, received, parsed, led, arrived, judged, checked, handedOut, kept}
 use Rattle.gateway.specs.Lookup.{leadsTo, firstFree}
@@ -31,7 +34,7 @@ use Rattle.message.proofs.Soundness as keys
 use Rattle.sender.specs.Protect.{keyIdOf, soundRecord, Outcome, refusal, sent, longestPayload, numbered, outcomeOf}
 use Rattle.sender.specs.declared.Sender.{Sender}
 use Rattle.sender.proofs.Records.{sound-facts}
-use Rattle.promises.specs.Replies.{firstOf, nothing, icvIn, ledTo, slotIn, rightIn, receiveReplies, installReplies, removeReplies, protectReplies}
+use Rattle.promises.specs.Replies.{firstOf, nothing, icvIn, ledTo, slotIn, rightIn, receiveReplies, installReplies, removeReplies, listingReplies, protectReplies}
 
 -- a choice between two, seen through a function or by the opposite test
 pushed : {A B : Type 0} (f : A → B) (b : Bool) (x y : A) → f (cond b x y) ≡ cond b (f x) (f y)
@@ -143,6 +146,25 @@ module _ (t m source out : List ℕ) where
   receive-reply =
       pushed (λ (l : Received). l .answer .reply) (ltb (length out) 2048) _ _
       ∙ ap (cond (ltb (length out) 2048) 1) (header-reply (ltb (length m) 14 || ltb 2048 (length m)) (eqb (versionIn m) 0) (suiteOf (csIn m)) refl refl)
+
+-- ---- listing
+
+pub listing-reply : (t : List ℕ) (i : ℕ) (out : List ℕ) → listed t i out .answer .reply ≡ firstOf (listingReplies t i out)
+unfolding listed listingReplies
+listing-reply t i out = by (ltb (length out) 2048) (ltb i 16 && occupied (slotOf t i)) (undamaged (slotOf t i))
+  where
+    refusal : ℕ → Listed
+    refusal n = record { answer = refused n; out = out }
+
+    done : Listed
+    done = record { answer = record { reply = 0; length = length (listingOf i (slotOf t i)); slot = i; seqnum = 0 }; out = put out 0 (listingOf i (slotOf t i)) }
+
+    by : (short held whole : Bool) → cond short (refusal 1) (cond held (cond whole done (refusal 7)) (refusal 16)) .answer .reply
+        ≡ cond short 1 (cond (not held) 16 (cond (not whole) 7 0))
+    by true held whole = refl
+    by false false whole = refl
+    by false true false = refl
+    by false true true = refl
 
 -- ---- protect
 

@@ -1,2 +1,3 @@
 pub mod Cases
+pub mod History
 pub mod Replies

@@ -109,6 +109,18 @@ removeReplies t i =
     reply 16 (not (ltb i 16 && occupied (slotOf t i)))
     ∷ []
 
+-- ---- listing
+
+unfoldable pub listingReplies : List ℕ → ℕ → List ℕ → List Reply
+listingReplies t i out =
+    -- output buffer under 2,048 bytes
+    reply 1 (ltb (length out) 2048)
+    -- slot over 15, or free
+    ∷ reply 16 (not (ltb i 16 && occupied (slotOf t i)))
+    -- record damaged
+    ∷ reply 7 (not (undamaged (slotOf t i)))
+    ∷ []
+
 -- ---- protect
 
 unfoldable pub protectReplies : Sender → List ℕ → List ℕ → List Reply

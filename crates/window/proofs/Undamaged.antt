@@ -68,10 +68,14 @@ unfolding marked
 fresh-unmarked f n = rw (bit-none, and-false)
 
 -- The window's 256 digits hold every mark.
+held : (w : View) → 1 ≤ w .frame .size → w .frame .size ≤ 256 → w .marks < 2 ^ (w .highest + 1 - floorOf w) → w .marks < 2 ^ 256
+held w s h i = let l = floor-law (w .frame) (w .highest) s in lt-of-lt-of-le i (pow-mono {j = 256} (omega arith))
+
+pub marks-small : {w : View} → Undamaged w → w .marks < 2 ^ 256
+marks-small {w} u = held w (u .sized) (u .size-high) (u .inside)
+
 counts : (w : View) → 1 ≤ w .frame .size → w .frame .size ≤ 256 → w .marks < 2 ^ (w .highest + 1 - floorOf w) → countOf w ≡ ones (w .marks)
-counts w s h i =
-    let l = floor-law (w .frame) (w .highest) s in
-    ones-in 256 (w .marks) (lt-of-lt-of-le i (pow-mono {j = 256} (omega arith)))
+counts w s h i = ones-in 256 (w .marks) (held w s h i)
 
 -- ---- a number is accepted
 

@@ -6,7 +6,7 @@ use native.Mathlib.Omega.{arith}
 use borrow.Author.Needs.{needs}
 use lib.Dec.{eqb}
 use lib.ListN.{getD}
-use Rattle.message.specs.KeyId.{lengthOf, lengthAsked}
+use Rattle.message.specs.KeyId.{keyIdOf, lengthOf, lengthAsked}
 use Rattle.message.specs.KeyData.{known}
 use Rattle.message.proofs.KeyIds.{length-least}
 use Rattle.message.proofs.Soundness.{Sound, sound-test, unsound, by-flag, by-first, by-neither}
@@ -61,7 +61,7 @@ sound-spec =
     tie.close
     (tie.spec
     (λ c. unsound _ _ _ _ _ (λ s. omega (arith, s .flag-small)))
-    (λ c. unsound _ _ _ _ _ (λ s. omega (arith, s .keyid-length, length-least (getD (c .before .before .before .before .before .args .keyid .now) 0 0) 0)))
+    (λ c. unsound _ _ _ _ _ (λ s. omega (arith, s .keyid-length, length-least (keyIdOf (getD (c .before .before .before .before .before .args .keyid .now) 0 0) 0))))
     (λ c. search needs)
     (λ c κs. search needs)
     (λ c κs. search needs)
