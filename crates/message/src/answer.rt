@@ -3,6 +3,7 @@ ghost use mathlib.Core.Path.{_≡_};
 ghost use Rattle.message.specs.Answer.{refused};
 
 // A reply, and with reply 0 a length, a slot and a number as the function says.
+#[repr(C)]
 pub struct Answer {
     pub reply: u64,
     pub length: usize,

@@ -1,0 +1,148 @@
+/* operations.c: one operation, N times over, for an instruction count. Built twice: with -DPLAIN over the plain C of tests/reference.c, else over the
+ * library. The lines around each call are the same in both.
+ *
+ *   operations N NAME        exit status 0 where each call answered what it should */
+#include "crisp.h"
+#include <stdio.h>
+#include <stdlib.h>
+#include <string.h>
+
+#ifdef PLAIN
+#include "reference.h"
+#define crisp_install ref_install
+#define crisp_receive ref_receive
+#define crisp_protect ref_protect
+#else
+#include "cipher.h"
+#endif
+
+/* Appendix A of R 1323565.1.029-2019: what A.1 and A.2 share, and their numbers */
+static const uint8_t key_bytes[32] = {
+    0x56, 0x50, 0x94, 0x27, 0x15, 0x32, 0x49, 0x65, 0x34, 0x98, 0x52, 0x46, 0x59, 0x32, 0x46, 0x53,
+    0x04, 0x53, 0x29, 0x45, 0x34, 0x65, 0x93, 0x84, 0x50, 0x73, 0x24, 0x95, 0x76, 0x35, 0x12, 0x90,
+};
+static const uint8_t source[12] = "020518000001";
+static const char payload_a[] = "Hi! This is test for CRISP messages\n\x03";
+static const uint64_t numbers[] = {0, 0x0b76e6736001, 0x0b76e66ea001};
+
+static uint8_t table[CRISP_TABLE], saved[CRISP_TABLE], data[2048], out[2048], message[2048];
+static volatile uint64_t sink;
+
+static uint32_t key[8];
+
+static struct crisp_sender sender_of(int suite)
+{
+    struct crisp_sender s = {.flag = 1, .keyid = {0x30}, .keyid_len = 1, .source_len = 12, .suite = (uint8_t)suite, .current = numbers[suite] - 1};
+    memcpy(s.source, source, 12);
+    memcpy(s.key, key_bytes, 32);
+    return s;
+}
+
+/* the message of `length` payload bytes is sent, n times, with the same number */
+static int protects(int suite, size_t length, uint64_t n)
+{
+    struct crisp_sender s = sender_of(suite);
+    while (n--) {
+        s.current = numbers[suite] - 1;
+        if (crisp_protect(&s, data, length, out, sizeof out).reply) return 1;
+    }
+    return 0;
+}
+
+/* the entry stands in slot `slot`, behind others; the window is put back before each arrival */
+static int receives(int suite, size_t length, int slot, int damage, uint64_t n, uint64_t reply)
+{
+    for (int i = 0; i <= slot; i++) {
+        uint8_t keyid[2] = {0x81, (uint8_t)i};
+        struct crisp_answer a = i < slot ? crisp_install(table, 1, keyid, 2, source, 12, (uint8_t)suite, key_bytes, 32, 256)
+                                         : crisp_install(table, 1, (const uint8_t *)"\x30", 1, source, 12, (uint8_t)suite, key_bytes, 32, 256);
+        if (a.reply) return 1;
+    }
+    struct crisp_sender s = sender_of(suite);
+    struct crisp_answer a = crisp_protect(&s, data, length, message, sizeof message);
+    if (a.reply) return 1;
+    if (damage >= 0) message[damage] ^= 1;
+    memcpy(saved, table, sizeof table);
+    uint8_t *window = table + 288 * slot + 205, *before = saved + 288 * slot + 205;
+    while (n--) {
+        memcpy(window, before, 56);
+        if (crisp_receive(table, message, a.length, source, 12, out, sizeof out).reply != reply) return 1;
+    }
+    return 0;
+}
+
+static int run(const char *name, uint64_t n)
+{
+    uint64_t x = 0;
+    if (!strcmp(name, "block")) {
+        while (n--) {
+#ifdef PLAIN
+            x = ref_block(key, x);
+#else
+            x = cipher_block(key, x);
+#endif
+        }
+    } else if (!strcmp(name, "check-2048")) {
+        while (n--) {
+#ifdef PLAIN
+            x ^= ref_check(key, data, 2048);
+#else
+            x ^= cipher_check(key, data, 2048);
+#endif
+        }
+    } else if (!strcmp(name, "counter-2048")) {
+        while (n--) {
+#ifdef PLAIN
+            ref_counter(key, (uint32_t)n, data, 2048, out);
+#else
+            if (!cipher_counter(key, (uint32_t)n, data, 2048, out)) return 1;
+#endif
+        }
+    } else if (!strcmp(name, "keys-suite-1")) {
+        while (n--) {
+#ifdef PLAIN
+            uint32_t check[8], cipher[8];
+            ref_keys(key, 1, source, 12, n, check, cipher);
+            x ^= check[0] ^ cipher[7];
+#else
+            struct cipher_keys k = cipher_keys_1(key, source, n);
+            x ^= k.check[0] ^ k.cipher[7];
+#endif
+        }
+    } else if (!strcmp(name, "keys-suite-2")) {
+        while (n--) {
+#ifdef PLAIN
+            uint32_t check[8];
+            ref_keys(key, 2, source, 12, n, check, NULL);
+            x ^= check[7];
+#else
+            struct cipher_key k = cipher_key_2(key, source, n);
+            x ^= k.check[7];
+#endif
+        }
+    } else if (!strcmp(name, "receive-A.1")) return receives(1, 37, 0, -1, n, 0);
+    else if (!strcmp(name, "receive-A.2")) return receives(2, 37, 0, -1, n, 0);
+    else if (!strcmp(name, "receive-2048-suite-1")) return receives(1, 2034, 0, -1, n, 0);
+    else if (!strcmp(name, "receive-2048-suite-2")) return receives(2, 2034, 0, -1, n, 0);
+    else if (!strcmp(name, "receive-A.1-slot-15")) return receives(1, 37, 15, -1, n, 0);
+    else if (!strcmp(name, "refuse-version")) return receives(1, 37, 0, 1, n, 3);
+    else if (!strcmp(name, "refuse-no-entry")) return receives(1, 37, 0, 3, n, 6);
+    else if (!strcmp(name, "refuse-no-entry-16-slots")) return receives(1, 37, 15, 3, n, 6);
+    else if (!strcmp(name, "refuse-icv")) return receives(1, 37, 0, 50, n, 11);
+    else if (!strcmp(name, "protect-A.1")) return protects(1, 37, n);
+    else if (!strcmp(name, "protect-A.2")) return protects(2, 37, n);
+    else if (!strcmp(name, "protect-2048-suite-1")) return protects(1, 2034, n);
+    else if (!strcmp(name, "protect-2048-suite-2")) return protects(2, 2034, n);
+    else return 2;
+    sink = x;
+    return 0;
+}
+
+int main(int argc, char **argv)
+{
+    if (argc != 3) return 2;
+    for (size_t i = 0; i < sizeof data; i++) data[i] = (uint8_t)(i * 7 + 3);
+    memcpy(data, payload_a, 37);
+    for (int i = 0; i < 32; i++) key[i / 4] = key[i / 4] << 8 | key_bytes[i];
+    return run(argv[2], strtoull(argv[1], NULL, 10));
+}

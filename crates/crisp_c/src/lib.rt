@@ -1,0 +1,67 @@
+// The gateway and the sender for C: five functions over the proved ones, with the same contracts. include/crisp.h declares and documents them.
+ghost use mathlib.Core.Path.{_≡_};
+ghost use Rattle.gateway.specs.Install.{installed, removed};
+ghost use Rattle.gateway.specs.Listing.{listed};
+ghost use Rattle.gateway.specs.Receive.{received};
+ghost use Rattle.sender.specs.Protect.{Protects};
+use gateway::TABLE;
+use message::answer::Answer;
+use sender::Sender;
+
+// As `gateway::install`.
+#[no_mangle]
+pub extern "C" fn crisp_install(
+    table: &mut [u8; TABLE],
+    flag: u8,
+    keyid: &[u8],
+    source: &[u8],
+    suite: u8,
+    key: &[u8],
+    size: u64,
+) -> Answer
+    ensures { λ r. ⌜ r ≡ installed (now (table .entry)) flag (now (keyid .entry)) (now (source .entry)) suite (now (key .entry)) size .answer ⌝ }
+    ensures { λ r. ⌜ now (table .exit) ≡ installed (now (table .entry)) flag (now (keyid .entry)) (now (source .entry)) suite (now (key .entry)) size .table ⌝ }
+{
+    gateway::install(table, flag, keyid, source, suite, key, size)
+}
+
+// As `gateway::remove`.
+#[no_mangle]
+pub extern "C" fn crisp_remove(table: &mut [u8; TABLE], slot: usize) -> Answer
+    ensures { λ r. ⌜ r ≡ removed (now (table .entry)) slot .answer ⌝ }
+    ensures { λ r. ⌜ now (table .exit) ≡ removed (now (table .entry)) slot .table ⌝ }
+{
+    gateway::remove(table, slot)
+}
+
+// As `gateway::receive`.
+#[no_mangle]
+pub extern "C" fn crisp_receive(
+    table: &mut [u8; TABLE],
+    message: &[u8],
+    source: &[u8],
+    out: &mut [u8],
+) -> Answer
+    ensures { λ r. ⌜ r ≡ received (now (table .entry)) (now (message .entry)) (now (source .entry)) (now (out .entry)) .answer ⌝ }
+    ensures { λ r. ⌜ now (table .exit) ≡ received (now (table .entry)) (now (message .entry)) (now (source .entry)) (now (out .entry)) .table ⌝ }
+    ensures { λ r. ⌜ now (out .exit) ≡ received (now (table .entry)) (now (message .entry)) (now (source .entry)) (now (out .entry)) .out ⌝ }
+{
+    gateway::receive(table, message, source, out)
+}
+
+// As `gateway::listing`.
+#[no_mangle]
+pub extern "C" fn crisp_listing(table: &[u8; TABLE], slot: usize, out: &mut [u8]) -> Answer
+    ensures { λ r. ⌜ r ≡ listed (now (table .entry)) slot (now (out .entry)) .answer ⌝ }
+    ensures { λ r. ⌜ now (out .exit) ≡ listed (now (table .entry)) slot (now (out .entry)) .out ⌝ }
+{
+    gateway::listing(table, slot, out)
+}
+
+// As `sender::protect`: the record is lent, and only its current number moves.
+#[no_mangle]
+pub extern "C" fn crisp_protect(sender: &mut Sender, payload: &[u8], out: &mut [u8]) -> Answer
+    ensures { λ r. ⌜ Protects (now (sender .entry)) (now (payload .entry)) (now (out .entry)) r (now (sender .exit)) (now (out .exit)) ⌝ }
+{
+    sender::protect(sender, payload, out)
+}

@@ -1,0 +1,366 @@
+/* compare.c: runs the library beside the second implementation (reference.c) on seeded random sequences of calls and on sweeps, and compares after
+ * every call the four numbers of the answer, all bytes of the table, of the sender's record and of the output. At the first difference it prints
+ * the sequence that showed it and stops.
+ *
+ *   compare [SEQUENCES [SEED]]        100000 sequences and seed 1 where nothing is said */
+#include "crisp.h"
+#include "random.h"
+#include "reference.h"
+#include <stdarg.h>
+#include <stdio.h>
+#include <stdlib.h>
+#include <string.h>
+
+enum { ENTRIES = 24, KEPT = 64, ROOM = 2304 };
+
+/* the record as the library has it: key data in a struct of its own, and the number behind it */
+_Static_assert(offsetof(struct crisp_sender, keyid_len) == 136 && offsetof(struct crisp_sender, source) == 144 && offsetof(struct crisp_sender, suite) == 184
+               && offsetof(struct crisp_sender, current) == 224 && sizeof(struct crisp_sender) == 232 && sizeof(struct crisp_answer) == 32, "layout");
+
+/* ---- what was called, for the report */
+
+static char trace[1 << 18];
+static size_t traced;
+
+static void say(const char *format, ...)
+{
+    va_list args;
+    va_start(args, format);
+    if (traced < sizeof trace) traced += (size_t)vsnprintf(trace + traced, sizeof trace - traced, format, args);
+    va_end(args);
+}
+
+static void say_bytes(const char *name, const uint8_t *p, size_t n)
+{
+    say(" %s=", name);
+    for (size_t i = 0; i < n; i++) say("%02x", p[i]);
+}
+
+/* ---- both sides */
+
+static uint8_t table[CRISP_TABLE], ref_table[CRISP_TABLE];
+static uint8_t out[ROOM], ref_out[ROOM];
+
+enum call { INSTALL, REMOVE, RECEIVE, PROTECT, LISTING, CALLS };
+static const char *const call_names[CALLS] = {"install", "remove", "receive", "protect", "listing"};
+static uint64_t replies[CALLS][17], compared;
+
+static void differs(const char *what)
+{
+    printf("compare: %s differs after\n%.*s\n", what, (int)(traced < sizeof trace ? traced : sizeof trace), trace);
+    exit(1);
+}
+
+static void agree(enum call call, struct crisp_answer a, struct crisp_answer b)
+{
+    say(" -> %llu %zu %zu %llu, and the other %llu %zu %zu %llu\n", (unsigned long long)a.reply, a.length, a.slot, (unsigned long long)a.seqnum,
+        (unsigned long long)b.reply, b.length, b.slot, (unsigned long long)b.seqnum);
+    if (a.reply != b.reply || a.length != b.length || a.slot != b.slot || a.seqnum != b.seqnum) differs("the answer");
+    if (a.reply > 16) differs("a reply that is not listed");
+    if (memcmp(table, ref_table, CRISP_TABLE)) differs("the table");
+    if (memcmp(out, ref_out, ROOM)) differs("the output");
+    replies[call][a.reply]++;
+    compared++;
+}
+
+static void same_outputs(void)
+{
+    fill(out, ROOM);
+    memcpy(ref_out, out, ROOM);
+}
+
+/* ---- senders with their key data, from which entries are installed */
+
+static struct crisp_sender senders[ENTRIES], ref_senders[ENTRIES];
+static uint64_t sizes[ENTRIES];
+
+struct message {
+    uint8_t bytes[2048];
+    size_t length;
+    int from;
+};
+static struct message kept[KEPT];
+static int keeps;
+
+static void make_senders(void)
+{
+    static const uint8_t firsts[] = {0x05, 0x81, 0x80, 0x7f, 0x83, 0xff, 0x00, 0x90};
+    static const uint64_t widths[] = {1, 2, 4, 63, 64, 65, 128, 255, 256};
+    for (int i = 0; i < ENTRIES; i++) {
+        struct crisp_sender *s = &senders[i];
+        memset(s, 0, sizeof *s);
+        s->keyid[0] = firsts[i % 8];
+        s->keyid_len = s->keyid[0] <= 0x80 ? 1 : s->keyid[0] - 0x7fu;
+        fill(s->keyid + 1, s->keyid_len - 1);
+        if (s->keyid[0] == 0x81) s->keyid[1] = 0x05;            /* 81 05 beside 05 */
+        s->flag = s->keyid[0] == 0x80 ? 1 : (uint8_t)below(2);
+        s->source_len = 4 + below(29);
+        fill(s->source, s->source_len);
+        s->suite = (uint8_t)(1 + below(2));
+        fill(s->key, 32);
+        s->current = below(4) ? below(8) : (1ULL << 48) - 1 - below(6);
+        sizes[i] = widths[below(sizeof widths / sizeof *widths)];
+    }
+    memcpy(ref_senders, senders, sizeof senders);
+    keeps = 0;
+}
+
+/* ---- the calls */
+
+static void call_install(const struct crisp_sender *s, uint64_t size, size_t key_len)
+{
+    uint8_t key[40] = {0};
+    memcpy(key, s->key, 32);
+    say("install flag=%d suite=%d size=%llu", s->flag, s->suite, (unsigned long long)size);
+    say_bytes("keyid", s->keyid, s->keyid_len);
+    say_bytes("source", s->source, s->source_len);
+    say_bytes("key", key, key_len);
+    struct crisp_answer a = crisp_install(table, s->flag, s->keyid, s->keyid_len, s->source, s->source_len, s->suite, key, key_len, size);
+    struct crisp_answer b = ref_install(ref_table, s->flag, s->keyid, s->keyid_len, s->source, s->source_len, s->suite, key, key_len, size);
+    agree(INSTALL, a, b);
+}
+
+static void call_remove(size_t slot)
+{
+    say("remove %zu", slot);
+    struct crisp_answer a = crisp_remove(table, slot);
+    agree(REMOVE, a, ref_remove(ref_table, slot));
+}
+
+static void call_receive(const uint8_t *message, size_t n, const uint8_t *source, size_t source_len, size_t room)
+{
+    say("receive out=%zu", room);
+    say_bytes("message", message, n);
+    say_bytes("source", source, source_len);
+    same_outputs();
+    struct crisp_answer a = crisp_receive(table, message, n, source, source_len, out, room);
+    agree(RECEIVE, a, ref_receive(ref_table, message, n, source, source_len, ref_out, room));
+}
+
+static void call_listing(size_t slot, size_t room)
+{
+    say("listing %zu out=%zu", slot, room);
+    same_outputs();
+    struct crisp_answer a = crisp_listing(table, slot, out, room);
+    agree(LISTING, a, ref_listing(ref_table, slot, ref_out, room));
+}
+
+static struct crisp_answer call_protect(struct crisp_sender *s, struct crisp_sender *r, const uint8_t *payload, size_t n, size_t room)
+{
+    say("protect current=%llu out=%zu", (unsigned long long)s->current, room);
+    say_bytes("payload", payload, n);
+    same_outputs();
+    struct crisp_answer a = crisp_protect(s, payload, n, out, room);
+    struct crisp_answer b = ref_protect(r, payload, n, ref_out, room);
+    if (memcmp(s, r, sizeof *s)) differs("the sender's record");
+    agree(PROTECT, a, b);
+    return a;
+}
+
+/* ---- random calls */
+
+static size_t some_room(void) { return below(16) ? 2048 : 2040 + below(17); }
+
+static void random_protect(int from, int likely)
+{
+    static uint8_t payload[2048];
+    size_t n = below(8) ? below(40) : 1900 + below(149);
+    fill(payload, n);
+    struct crisp_sender s = senders[from], r = ref_senders[from];
+    if (!likely) {
+        uint8_t *bytes[] = {&s.flag, &s.suite, &s.keyid[0], (uint8_t *)&s.keyid_len, (uint8_t *)&s.source_len, (uint8_t *)&s.current + 6};
+        *bytes[below(6)] = (uint8_t)rnd();
+        r = s;
+        call_protect(&s, &r, payload, n, some_room());
+        return;
+    }
+    struct crisp_answer a = call_protect(&senders[from], &ref_senders[from], payload, n, some_room());
+    if (a.reply) return;
+    struct message *m = &kept[keeps++ % KEPT];
+    memcpy(m->bytes, out, a.length);
+    m->length = a.length;
+    m->from = from;
+}
+
+static void random_install(void)
+{
+    int i = (int)below(ENTRIES);
+    struct crisp_sender s = senders[i];
+    uint64_t size = sizes[i];
+    size_t key_len = 32;
+    switch (below(12)) {
+    case 0: s.flag = (uint8_t)below(4); break;
+    case 1: s.suite = (uint8_t)below(4); break;
+    case 2: s.keyid_len = below(129); break;
+    case 3: s.source_len = below(33); break;
+    case 4: size = below(3) ? 256 + below(2) : 0; break;
+    case 5: key_len = 28 + below(9); break;
+    }
+    call_install(&s, size, key_len);
+}
+
+static void random_receive(void)
+{
+    if (!keeps) random_protect((int)below(ENTRIES), 1);
+    if (!keeps) return;
+    struct message m = kept[below(4) ? (size_t)(keeps - 1) % KEPT : below((uint64_t)(keeps < KEPT ? keeps : KEPT))];
+    const struct crisp_sender *s = &senders[m.from];
+    size_t source_len = s->source_len;
+    uint8_t source[32];
+    memcpy(source, s->source, 32);
+    switch (below(10)) {
+    case 0: m.bytes[below(m.length)] ^= (uint8_t)(1 << below(8)); break;        /* one bit */
+    case 1: m.length = below(m.length + 1); break;                              /* cut */
+    case 2: m.bytes[2] = (uint8_t)below(4); break;                              /* another suite */
+    case 3: m.bytes[below(2)] ^= (uint8_t)(1 << below(8)); break;               /* version or flag */
+    case 4: source_len = below(33); break;
+    case 5: fill(m.bytes + 3 + s->keyid_len, 6); break;                         /* another number */
+    }
+    call_receive(m.bytes, m.length, source, source_len, some_room());
+}
+
+static void random_damage(void)
+{
+    size_t at = below(4) ? 288 * below(16) + below(288) : 288 * below(3) + 197 + below(64);
+    uint8_t x = below(2) ? (uint8_t)rnd() : (uint8_t)(table[at] ^ 1 << below(8));
+    say("byte %zu of the table becomes %02x\n", at, x);
+    table[at] = ref_table[at] = x;
+}
+
+static void random_call(void)
+{
+    switch (below(20)) {
+    case 0: case 1: case 2: random_install(); break;
+    case 3: if (!below(3)) call_remove(below(18)); break;
+    case 4: call_listing(below(18), some_room()); break;
+    case 5: if (!below(4)) random_damage(); break;
+    case 6: random_protect((int)below(ENTRIES), 0); break;
+    case 7: case 8: case 9: random_protect((int)below(ENTRIES), 1); break;
+    default: random_receive();
+    }
+}
+
+static void clear_tables(void)
+{
+    memset(table, 0, CRISP_TABLE);
+    memset(ref_table, 0, CRISP_TABLE);
+}
+
+/* A sequence is told by its seed alone: new senders, an empty table, some entries, and then any calls. */
+static void random_sequence(uint64_t seed)
+{
+    random_state = seed;
+    traced = 0;
+    say("sequence of seed %llu\n", (unsigned long long)seed);
+    clear_tables();
+    make_senders();
+    int entries = below(8) ? 1 + (int)below(4) : ENTRIES;
+    for (int i = 0; i < entries; i++) call_install(&senders[i], sizes[i], 32);
+    for (int n = 2 + (int)below(10); n > 0; n--) {
+        if (below(4)) random_call();
+        else {                                                                  /* a message to an entry that stands, and at once */
+            random_protect((int)below((uint64_t)entries), 1);
+            random_receive();
+        }
+    }
+}
+
+/* ---- sweeps: every length, every byte, every size */
+
+static uint8_t saved[CRISP_TABLE];
+
+static void back(void)
+{
+    memcpy(table, saved, CRISP_TABLE);
+    memcpy(ref_table, saved, CRISP_TABLE);
+    traced = 0;
+}
+
+static void sweep(int i, size_t payload)
+{
+    static uint8_t bytes[2048], data[2048];
+    struct crisp_sender *s = &senders[i];
+    clear_tables();
+    traced = 0;
+    call_install(s, sizes[i], 32);
+    fill(data, payload);
+    struct crisp_answer a = call_protect(s, &ref_senders[i], data, payload, 2048);
+    if (a.reply) return;
+    size_t n = a.length;
+    memcpy(bytes, out, n);
+    memcpy(saved, table, CRISP_TABLE);
+    for (size_t cut = 0; cut <= n; cut++) back(), call_receive(bytes, cut, s->source, s->source_len, 2048);
+    for (size_t at = 0; at < n; at++)
+        for (int bit = 0; bit < 8; bit++) {
+            back();
+            bytes[at] ^= (uint8_t)(1 << bit);
+            call_receive(bytes, n, s->source, s->source_len, 2048);
+            bytes[at] ^= (uint8_t)(1 << bit);
+        }
+    for (size_t room = 0; room <= 2060; room += room < 2030 && room > 3 ? 127 : 1) {
+        back(), call_receive(bytes, n, s->source, s->source_len, room);
+        call_listing(0, room);
+        call_protect(s, &ref_senders[i], data, payload, room);
+    }
+    for (size_t length = 0; length <= 32; length++) back(), call_receive(bytes, n, s->source, length, 2048);
+    back();
+    call_receive(bytes, n, s->source, s->source_len, 2048);
+    call_receive(bytes, n, s->source, s->source_len, 2048);                     /* replayed */
+    memcpy(saved, table, CRISP_TABLE);
+    call_protect(s, &ref_senders[i], data, payload, 2048);
+    memcpy(bytes, out, n);
+    for (size_t at = 0; at < 288; at++)                                         /* a damaged entry, byte by byte */
+        for (int v = 0; v < 4; v++) {
+            back();
+            table[at] = ref_table[at] = (uint8_t)(v == 0 ? 0 : v == 1 ? 255 : v == 2 ? saved[at] + 1 : saved[at] ^ 0x80);
+            call_receive(bytes, n, s->source, s->source_len, 2048);
+            call_listing(0, 2048);
+            call_install(s, sizes[i], 32);
+            call_remove(0);
+        }
+}
+
+static void sweep_payloads(void)
+{
+    static uint8_t data[2100];
+    fill(data, sizeof data);
+    for (int i = 0; i < 6; i++) {
+        clear_tables();
+        call_install(&senders[i], sizes[i], 32);
+        for (size_t n = 0; n <= 2100; n += n > 40 && n < 1880 ? 37 : 1) {
+            traced = 0;
+            struct crisp_answer a = call_protect(&senders[i], &ref_senders[i], data, n, 2048);
+            if (a.reply) continue;
+            uint8_t bytes[2048];
+            memcpy(bytes, out, a.length);
+            call_receive(bytes, a.length, senders[i].source, senders[i].source_len, 2048);
+        }
+    }
+}
+
+int main(int argc, char **argv)
+{
+    uint64_t sequences = argc > 1 ? strtoull(argv[1], NULL, 0) : 100000, seed = argc > 2 ? strtoull(argv[2], NULL, 0) : 1;
+    random_state = seed;
+    make_senders();
+    for (int i = 0; i < 8; i++) senders[i].current = ref_senders[i].current = 5;
+    for (int i = 0; i < 8; i++) sweep(i, 7 * (size_t)i);
+    sweep_payloads();
+    uint64_t swept = compared;
+    for (uint64_t i = 0; i < sequences; i++) random_sequence(seed << 32 | i);
+    int missing = 0;
+    for (int c = 0; c < CALLS; c++) {
+        printf("%-8s", call_names[c]);
+        for (int r = 0; r <= 16; r++)
+            if (replies[c][r]) printf("  %d: %llu", r, (unsigned long long)replies[c][r]);
+        printf("\n");
+    }
+    for (int r = 0; r <= 16; r++) {
+        uint64_t n = 0;
+        for (int c = 0; c < CALLS; c++) n += replies[c][r];
+        if (!n) printf("reply %d was never given\n", r), missing++;
+    }
+    printf("compare: %llu calls in sweeps and %llu in %llu random sequences, no difference\n", (unsigned long long)swept,
+           (unsigned long long)(compared - swept), (unsigned long long)sequences);
+    return missing ? 1 : 0;
+}

@@ -1,0 +1,330 @@
+/* reference.c: see reference.h. Comments name the rule that a piece follows. */
+#include "reference.h"
+#include <stdio.h>
+#include <string.h>
+
+typedef uint8_t u8;
+typedef uint32_t u32;
+typedef uint64_t u64;
+typedef struct crisp_answer answer;
+
+static answer refuse(u64 reply) { return (answer){reply, 0, 0, 0}; }
+static answer done(size_t length, size_t slot, u64 seqnum) { return (answer){0, length, slot, seqnum}; }
+
+/* ---- big-endian numbers */
+
+static u64 get(const u8 *p, int n)
+{
+    u64 x = 0;
+    while (n--) x = x << 8 | *p++;
+    return x;
+}
+
+static void set(u8 *p, int n, u64 x)
+{
+    while (n--) p[n] = (u8)x, x >>= 8;
+}
+
+/* ---- Magma: GOST R 34.12-2015, 5 */
+
+static const u8 rows[8][16] = {
+    {12, 4, 6, 2, 10, 5, 11, 9, 14, 8, 13, 7, 0, 3, 15, 1}, {6, 8, 2, 3, 9, 10, 5, 12, 1, 14, 4, 7, 11, 13, 0, 15},
+    {11, 3, 5, 8, 2, 15, 10, 13, 14, 1, 7, 4, 12, 9, 6, 0}, {12, 8, 2, 1, 13, 4, 15, 6, 7, 0, 10, 5, 3, 14, 9, 11},
+    {7, 15, 5, 10, 8, 1, 6, 13, 0, 9, 3, 14, 11, 4, 2, 12}, {5, 13, 15, 6, 9, 2, 12, 10, 11, 7, 8, 1, 4, 3, 14, 0},
+    {8, 14, 2, 5, 6, 9, 1, 12, 15, 4, 11, 0, 13, 10, 3, 7}, {1, 7, 14, 13, 0, 5, 8, 3, 4, 15, 10, 6, 9, 12, 11, 2},
+};
+
+static inline u32 turn(u32 word, u32 half)
+{
+    u32 x = half + word, y = 0;
+    for (int i = 0; i < 8; i++) y |= (u32)rows[i][x >> 4 * i & 15] << 4 * i;
+    return y << 11 | y >> 21;
+}
+
+void ref_key(const u8 bytes[32], u32 key[8])
+{
+    for (int i = 0; i < 8; i++) key[i] = (u32)get(bytes + 4 * i, 4);
+}
+
+/* 32 rounds, two at a time so that no halves have to be swapped: the key words in order three times, then in reverse. The halves do not swap after the
+ * last round, so they are joined the other way round. */
+u64 ref_block(const u32 key[8], u64 block)
+{
+    u32 high = (u32)(block >> 32), low = (u32)block;
+    for (int pass = 0; pass < 3; pass++)
+        for (int i = 0; i < 8; i += 2) high ^= turn(key[i], low), low ^= turn(key[i + 1], high);
+    for (int i = 7; i > 0; i -= 2) high ^= turn(key[i], low), low ^= turn(key[i - 1], high);
+    return (u64)low << 32 | high;
+}
+
+/* ---- the modes: GOST R 34.13-2015, 5.2 and 5.6 */
+
+static u64 twice(u64 x) { return x << 1 ^ (x >> 63 ? 0x1b : 0); }
+
+struct subkeys {
+    u64 full, padded;
+};
+
+static struct subkeys subkeys(const u32 key[8])
+{
+    u64 first = twice(ref_block(key, 0));
+    return (struct subkeys){first, twice(first)};
+}
+
+static u64 check_under(const u32 key[8], struct subkeys sub, const u8 *bytes, size_t n)
+{
+    u64 c = 0;
+    while (n > 8) {
+        c = ref_block(key, c ^ get(bytes, 8));
+        bytes += 8;
+        n -= 8;
+    }
+    u8 last[8] = {0};
+    memcpy(last, bytes, n);
+    if (n < 8) last[n] = 0x80;
+    return ref_block(key, c ^ get(last, 8) ^ (n == 8 ? sub.full : sub.padded));
+}
+
+u64 ref_check(const u32 key[8], const u8 *bytes, size_t n) { return check_under(key, subkeys(key), bytes, n); }
+
+void ref_counter(const u32 key[8], u32 iv, const u8 *bytes, size_t n, u8 *out)
+{
+    u64 counter = (u64)iv << 32;
+    for (size_t at = 0; at < n; at += 8) {
+        u64 gamma = ref_block(key, counter++);
+        size_t left = n - at < 8 ? n - at : 8;
+        for (size_t i = 0; i < left; i++) out[at + i] = bytes[at + i] ^ (u8)(gamma >> (56 - 8 * i));
+    }
+}
+
+/* ---- derived keys: R 1323565.1.029-2019, 6.4, with SN as the scope has it */
+
+static void derive(const u32 base[8], struct subkeys sub, int suite, const u8 *source, size_t source_len, u64 seqnum, int first, u32 key[8])
+{
+    u8 data[64];
+    size_t n = 1;
+    memcpy(data + n, suite == 1 ? "macenc" : "macmac", 6), n += 6;
+    data[n++] = 6;
+    set(data + n, 5, seqnum >> 13), n += 5;
+    memcpy(data + n, source, source_len), n += source_len;
+    data[n++] = (u8)suite;
+    set(data + n, 2, 6 + source_len), n += 2;
+    set(data + n, 2, suite == 1 ? 512 : 256), n += 2;
+    for (int i = 0; i < 4; i++) {
+        data[0] = (u8)(first + i);
+        u64 block = check_under(base, sub, data, n);
+        key[2 * i] = (u32)(block >> 32);
+        key[2 * i + 1] = (u32)block;
+    }
+}
+
+void ref_keys(const u32 base[8], int suite, const u8 *source, size_t source_len, u64 seqnum, u32 check[8], u32 cipher[8])
+{
+    struct subkeys sub = subkeys(base);
+    derive(base, sub, suite, source, source_len, seqnum, 1, check);
+    if (suite == 1) derive(base, sub, suite, source, source_len, seqnum, 5, cipher);
+}
+
+static u32 icv_of(const u32 base[8], struct subkeys sub, int suite, const u8 *source, size_t source_len, u64 seqnum, const u8 *bytes, size_t n)
+{
+    u32 key[8];
+    derive(base, sub, suite, source, source_len, seqnum, 1, key);
+    return (u32)(ref_check(key, bytes, n) >> 32);
+}
+
+/* suite 1 enciphers, suite 2 leaves the payload as it is */
+static void encipher(const u32 base[8], struct subkeys sub, int suite, const u8 *source, size_t source_len, u64 seqnum, const u8 *bytes, size_t n, u8 *out)
+{
+    if (suite == 1) {
+        u32 key[8];
+        derive(base, sub, suite, source, source_len, seqnum, 5, key);
+        ref_counter(key, (u32)seqnum, bytes, n, out);
+    } else {
+        memcpy(out, bytes, n);
+    }
+}
+
+/* ---- key data */
+
+static size_t keyid_length(u8 first) { return first <= 0x80 ? 1 : (size_t)first - 0x7f; }
+
+static int sound(u8 flag, const u8 *keyid, size_t keyid_len, size_t source_len, u8 suite, size_t key_len)
+{
+    return flag <= 1 && keyid_len >= 1 && keyid_len == keyid_length(keyid[0]) && source_len >= 4 && source_len <= 32 && key_len == 32
+        && (suite == 1 || suite == 2) && !(flag == 0 && keyid[0] == 0x80);
+}
+
+/* ---- the table: where the parts of an entry stand in its slot (docs/DECISIONS.md, 13) */
+
+enum { SLOT = 288, FLAG = 1, SUITE = 2, KEYID_LEN = 3, KEYID = 4, SOURCE_LEN = 132, SOURCE = 133, KEY = 165, SIZE = 197, HIGHEST = 205, MARKS = 213,
+       ACCEPTED = 245, BYTES = 253 };
+
+#define LAST 0xffffffffffffULL
+
+static int matches(const u8 *s, u8 flag, const u8 *keyid, size_t keyid_len, const u8 *source, size_t source_len)
+{
+    if (!s[0] || s[KEYID_LEN] > 128 || s[SOURCE_LEN] > 32 || s[FLAG] != flag) return 0;
+    if (s[KEYID_LEN] != keyid_len || memcmp(s + KEYID, keyid, keyid_len)) return 0;
+    return flag == 0 || (s[SOURCE_LEN] == source_len && !memcmp(s + SOURCE, source, source_len));
+}
+
+static int lookup(const u8 *table, u8 flag, const u8 *keyid, size_t keyid_len, const u8 *source, size_t source_len)
+{
+    for (int i = 0; i < 16; i++)
+        if (matches(table + SLOT * i, flag, keyid, keyid_len, source, source_len)) return i;
+    return -1;
+}
+
+/* the window, with its marks as 32 bytes: the bit of value 2^i stands for highest - i */
+struct window {
+    u64 size, highest;
+    u8 marks[32];
+};
+
+static struct window window_in(const u8 *s)
+{
+    struct window w = {get(s + SIZE, 8), get(s + HIGHEST, 8), {0}};
+    memcpy(w.marks, s + MARKS, 32);
+    return w;
+}
+
+static u64 floor_of(const struct window *w) { return w->highest + 1 > w->size ? w->highest + 1 - w->size : 0; }
+static int mark(const struct window *w, u64 i) { return i < 256 && w->marks[31 - i / 8] >> i % 8 & 1; }
+
+static int undamaged(const u8 *s)
+{
+    if (!sound(s[FLAG], s + KEYID, s[KEYID_LEN], s[SOURCE_LEN], s[SUITE], 32)) return 0;
+    struct window w = window_in(s);
+    if (w.size < 1 || w.size > 256 || w.highest > LAST) return 0;
+    u64 floor = floor_of(&w), count = 0;
+    for (u64 i = 0; i < 256; i++) {
+        if (!mark(&w, i)) continue;
+        if (i > w.highest || w.highest - i < floor) return 0;
+        count++;
+    }
+    if (w.highest > 0 && !mark(&w, 0)) return 0;
+    u64 accepted = get(s + ACCEPTED, 8);
+    if (accepted < count || accepted > count + floor) return 0;
+    return get(s + BYTES, 8) <= 2034 * accepted;        /* accepted is below 2^49 here */
+}
+
+/* all marks move up by d, and those above the window go */
+static void move_up(struct window *w, u64 d)
+{
+    struct window old = *w;
+    memset(w->marks, 0, 32);
+    for (u64 i = d; i < w->size; i++)
+        if (mark(&old, i - d)) w->marks[31 - i / 8] |= (u8)(1 << i % 8);
+}
+
+static void take(u8 *s, u64 seqnum, u64 length)
+{
+    struct window w = window_in(s);
+    if (seqnum > w.highest) {
+        move_up(&w, seqnum - w.highest);
+        w.highest = seqnum;
+    }
+    u64 i = w.highest - seqnum;
+    w.marks[31 - i / 8] |= (u8)(1 << i % 8);
+    set(s + HIGHEST, 8, w.highest);
+    memcpy(s + MARKS, w.marks, 32);
+    set(s + ACCEPTED, 8, get(s + ACCEPTED, 8) + 1);
+    set(s + BYTES, 8, get(s + BYTES, 8) + length);
+}
+
+/* ---- the five functions */
+
+answer ref_install(u8 *table, u8 flag, const u8 *keyid, size_t keyid_len, const u8 *source, size_t source_len, u8 suite, const u8 *key, size_t key_len, u64 size)
+{
+    if (!sound(flag, keyid, keyid_len, source_len, suite, key_len) || size < 1 || size > 256) return refuse(13);
+    if (lookup(table, flag, keyid, keyid_len, source, source_len) >= 0) return refuse(14);
+    for (size_t i = 0; i < 16; i++) {
+        u8 *s = table + SLOT * i;
+        if (s[0]) continue;
+        memset(s, 0, SLOT);
+        s[0] = 1;
+        s[FLAG] = flag;
+        s[SUITE] = suite;
+        s[KEYID_LEN] = (u8)keyid_len;
+        memcpy(s + KEYID, keyid, keyid_len);
+        s[SOURCE_LEN] = (u8)source_len;
+        memcpy(s + SOURCE, source, source_len);
+        memcpy(s + KEY, key, 32);
+        set(s + SIZE, 8, size);
+        return done(0, i, 0);
+    }
+    return refuse(15);
+}
+
+answer ref_remove(u8 *table, size_t slot)
+{
+    if (slot > 15 || !table[SLOT * slot]) return refuse(16);
+    memset(table + SLOT * slot, 0, SLOT);
+    return done(0, slot, 0);
+}
+
+answer ref_receive(u8 *table, const u8 *m, size_t n, const u8 *source, size_t source_len, u8 *out, size_t out_len)
+{
+    if (out_len < 2048) return refuse(1);
+    if (n < 14 || n > 2048) return refuse(2);
+    if (get(m, 2) & 0x7fff) return refuse(3);
+    int suite = m[2];
+    if (suite != 1 && suite != 2) return refuse(4);
+    size_t length = keyid_length(m[3]);
+    if (n < 9 + length + 4) return refuse(5);
+    int slot = lookup(table, m[0] >> 7, m + 3, length, source, source_len);
+    if (slot < 0) return refuse(6);
+    u8 *s = table + SLOT * slot;
+    if (!undamaged(s)) return refuse(7);
+    if (s[SUITE] != suite) return refuse(8);
+    struct window w = window_in(s);
+    u64 seqnum = get(m + 3 + length, 6);
+    if (seqnum < floor_of(&w)) return refuse(9);
+    if (seqnum <= w.highest && mark(&w, w.highest - seqnum)) return refuse(10);
+    u32 base[8];
+    ref_key(s + KEY, base);
+    struct subkeys sub = subkeys(base);
+    if (get(m + n - 4, 4) != icv_of(base, sub, suite, s + SOURCE, s[SOURCE_LEN], seqnum, m, n - 4)) return refuse(11);
+    size_t payload = n - 4 - (9 + length);
+    encipher(base, sub, suite, s + SOURCE, s[SOURCE_LEN], seqnum, m + 9 + length, payload, out);
+    take(s, seqnum, payload);
+    return done(payload, (size_t)slot, seqnum);
+}
+
+answer ref_protect(struct crisp_sender *r, const u8 *payload, size_t n, u8 *out, size_t out_len)
+{
+    if (out_len < 2048) return refuse(1);
+    if (r->keyid_len > 128 || r->source_len > 32 || !sound(r->flag, r->keyid, r->keyid_len, r->source_len, r->suite, 32) || r->current > LAST) return refuse(7);
+    if (n > 2035 - r->keyid_len) return refuse(2);
+    if (r->current == LAST) return refuse(12);
+    u64 seqnum = ++r->current;
+    u8 *p = out;
+    set(p, 2, (u64)r->flag << 15), p += 2;
+    *p++ = r->suite;
+    memcpy(p, r->keyid, r->keyid_len), p += r->keyid_len;
+    set(p, 6, seqnum), p += 6;
+    u32 base[8];
+    ref_key(r->key, base);
+    struct subkeys sub = subkeys(base);
+    encipher(base, sub, r->suite, r->source, r->source_len, seqnum, payload, n, p), p += n;
+    set(p, 4, icv_of(base, sub, r->suite, r->source, r->source_len, seqnum, out, (size_t)(p - out))), p += 4;
+    return done((size_t)(p - out), 0, seqnum);
+}
+
+answer ref_listing(const u8 *table, size_t slot, u8 *out, size_t out_len)
+{
+    if (out_len < 2048) return refuse(1);
+    if (slot > 15 || !table[SLOT * slot]) return refuse(16);
+    const u8 *s = table + SLOT * slot;
+    if (!undamaged(s)) return refuse(7);
+    char text[2048], *p = text;
+    p += sprintf(p, "slot=%zu\nflag=%d\nkeyid=", slot, s[FLAG]);
+    for (int i = 0; i < s[KEYID_LEN]; i++) p += sprintf(p, "%02x", s[KEYID + i]);
+    p += sprintf(p, "\nsource=");
+    for (int i = 0; i < s[SOURCE_LEN]; i++) p += sprintf(p, "%02x", s[SOURCE + i]);
+    p += sprintf(p, "\nsuite=%d\nsize=%llu\nhighest=%012llx\nmarks=", s[SUITE], (unsigned long long)get(s + SIZE, 8), (unsigned long long)get(s + HIGHEST, 8));
+    for (int i = 0; i < 32; i++) p += sprintf(p, "%02x", s[MARKS + i]);
+    p += sprintf(p, "\naccepted=%llu\nbytes=%llu\n", (unsigned long long)get(s + ACCEPTED, 8), (unsigned long long)get(s + BYTES, 8));
+    memcpy(out, text, (size_t)(p - text));
+    return done((size_t)(p - text), slot, 0);
+}
