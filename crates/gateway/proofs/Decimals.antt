@@ -9,7 +9,8 @@ use native.Mathlib.Omega.{arith}
 use borrow.Author.Tests.{lt-ltb, le-ltb}
 use lib.ListN.{length, set, length-append}
 use Rattle.gateway.specs.Listing.{decimalIn, decimalOf}
-use Rattle.gateway.proofs.Lines.{Written, byte-written, byte-further}
+use Rattle.octets.proofs.Places.{Written}
+use Rattle.gateway.proofs.Lines.{byte-written, byte-further}
 
 small : (n x : ℕ) → x < 10 → decimalIn (suc n) x ≡ (48 + x) ∷ []
 unfolding decimalIn
@@ -55,8 +56,8 @@ module _ (x : ℕ) (word : x < 2 ^ 64) (long : 10 ≤ x) where
   pub last-written : (l out : List ℕ) (at end : ℕ) → at + 20 ≤ length l → Written l at (decimalOf (x / 10)) out end
       → Written l at (decimalOf x) (set out end (48 + x % 10)) (end + 1)
   last-written l out at end h w =
-      rw next-digit (byte-further l at (decimalOf (x / 10)) out end w (48 + x % 10) (omega (arith, length-front, w .0)))
+      rw next-digit (byte-further w (48 + x % 10) (omega (arith, length-front, w .ends)))
 
 -- a number of one digit is written
 pub only-written : (x : ℕ) → x < 10 → (l : List ℕ) (at : ℕ) → at < length l → Written l at (decimalOf x) (set l at (48 + x)) (at + 1)
-only-written x h l at k = rw (small 19 x h) (refl, byte-written l at (48 + x) k)
+only-written x h l at k = rw (small 19 x h) (record { ends = refl; is = byte-written l at (48 + x) k })

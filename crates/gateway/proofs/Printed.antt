@@ -2,7 +2,7 @@
 -- Assumes nothing.
 use mathlib.Core.Path.{_≡_, sym, ap, _∙_}
 use mathlib.Core.Bool.{true}
-use mathlib.Core.List.{List, [], _∷_, _++_}
+use mathlib.Core.List.{List, [], _∷_}
 use Prim.Native.Nat.{ℕ, zero, suc, _+_, _-_, _/_, _%_, _≤_, _<_}
 use native.Mathlib.Nat.{add-zero, zero-add, add-suc}
 use native.Mathlib.Omega.{arith}
@@ -17,7 +17,7 @@ use Rattle.gateway.specs.Table.{flagOf, csOf, keyIdOf, sourceOf}
 use Rattle.gateway.specs.Record.{undamaged}
 use Rattle.gateway.specs.Listing.{decimalLine, hexLine, slotName, flagName, keyIdName, sourceName, suiteName, sizeName, highestName, marksName, acceptedName, bytesName, settledLines, movedLines}
 use Rattle.gateway.proofs.Damage.{undamaged-sound}
-use Rattle.gateway.proofs.Lines.{Written, further}
+use Rattle.octets.proofs.Places.{Written, further}
 
 -- the lowest bytes of a number are the last of more
 lowest : (m n x : ℕ) → drop m (bytesOf (m + n) x) ≡ bytesOf n x
@@ -63,14 +63,8 @@ module _ (s : List ℕ) (long : length s ≡ 288) (b : Bytes s) where
       → bytes ≡ bigEndian 8 (drop 253 s) → Written o₃ e₃ (decimalLine bytesName bytes) o₄ e₄
       → Written l at (movedLines s) o₄ e₄
   unfolding movedLines
-  moved-written {o₁} {o₂} {o₃} {o₄} {e₁} {e₂} {e₃} {e₄} {accepted} {bytes} l at h highest marks a third b fourth =
-      let A = hexLine highestName (part 207 6 s) in
-      let B = hexLine marksName (part 213 32 s) in
-      let C = decimalLine acceptedName accepted in
-      let two = further l at A o₁ e₁ highest B o₂ e₂ h marks in
-      let three = further l at (A ++ B) o₂ e₂ two C o₃ e₃ h third in
-      let four = further l at (A ++ B ++ C) o₃ e₃ three (decimalLine bytesName bytes) o₄ e₄ h fourth in
-      rw (highest-bytes, marks-bytes, ← a, ← b) four
+  moved-written l at h highest marks a third b fourth =
+      rw (highest-bytes, marks-bytes, ← a, ← b) (further (further (further highest h marks) h third) h fourth)
 
 -- the lines that an install settled
 pub settled-written : {o₁ o₂ o₃ o₄ o₅ o₆ : List ℕ} {e₁ e₂ e₃ e₄ e₅ e₆ size : ℕ} (l : List ℕ) (i : ℕ) (s : List ℕ)
@@ -81,18 +75,11 @@ pub settled-written : {o₁ o₂ o₃ o₄ o₅ o₆ : List ℕ} {e₁ e₂ e₃
     → size ≡ bigEndian 8 (drop 197 s) → Written o₅ e₅ (decimalLine sizeName size) o₆ e₆
     → (e₆ ≡ length (settledLines i s)) × (o₆ ≡ put l 0 (settledLines i s))
 unfolding settledLines
-settled-written {o₁} {o₂} {o₃} {o₄} {o₅} {o₆} {e₁} {e₂} {e₃} {e₄} {e₅} {e₆} {size} l i s first second third fourth fifth z sixth =
+settled-written {o₂ = o₂} {o₃} {o₄} {e₂ = e₂} {e₃} {e₄} l i s first second third fourth fifth z sixth =
     let h : 0 ≤ length l = omega arith in
     let k : 4 + getD s 3 0 - 4 ≡ getD s 3 0 = omega arith in
     let n : 133 + getD s 132 0 - 133 ≡ getD s 132 0 = omega arith in
-    let A = decimalLine slotName i in
-    let B = decimalLine flagName (flagOf s) in
-    let C = hexLine keyIdName (keyIdOf s) in
-    let D = hexLine sourceName (sourceOf s) in
-    let E = decimalLine suiteName (csOf s) in
-    let two = further l 0 A o₁ e₁ first B o₂ e₂ h second in
-    let three = further l 0 (A ++ B) o₂ e₂ two C o₃ e₃ h (rw k at third) in
-    let four = further l 0 (A ++ B ++ C) o₃ e₃ three D o₄ e₄ h (rw n at fourth) in
-    let five = further l 0 (A ++ B ++ C ++ D) o₄ e₄ four E o₅ e₅ h fifth in
-    let six = further l 0 (A ++ B ++ C ++ D ++ E) o₅ e₅ five (decimalLine sizeName size) o₆ e₆ h sixth in
-    rw (← z) (rw zero-add at (six .0), six .1)
+    let keyid : Written o₂ e₂ (hexLine keyIdName (keyIdOf s)) o₃ e₃ = rw k at third in
+    let source : Written o₃ e₃ (hexLine sourceName (sourceOf s)) o₄ e₄ = rw n at fourth in
+    let all = further (further (further (further (further first h second) h keyid) h source) h fifth) h sixth in
+    rw (← z) (rw zero-add at (all .ends), all .is)

@@ -1,12 +1,13 @@
 -- What stands before the ICV of a sealed message: its length, its bytes, and how it and the whole message are written.
 -- Assumes nothing.
-use mathlib.Core.Path.{_≡_, _∙_}
+use mathlib.Core.Path.{_≡_, refl, sym, _∙_}
 use mathlib.Core.List.{List, _++_}
 use Prim.Native.Nat.{ℕ, _+_, _*_, _^_}
 use native.Mathlib.Nat.{zero-add}
 use native.Mathlib.Omega.{arith}
 use lib.ListN.{length, take, length-append}
 use Rattle.octets.specs.Octets.{bytesOf, put}
+use Rattle.octets.proofs.Places.{Written, and-then}
 use Rattle.octets.proofs.BigEndian.{Bytes, bytes-append, bytes-small}
 use Rattle.magma.specs.Magma.{keyWords}
 use Rattle.message.specs.Suite.{numberOf, icvLengthOf}
@@ -14,7 +15,7 @@ use Rattle.message.specs.Header.{headerBytes}
 use Rattle.message.specs.Sealing.{icvOf, enciphered, frontOf, sealed}
 use Rattle.message.specs.declared.suite.Suite.{Suite}
 use Rattle.message.proofs.Payloads.{enciphered-length, enciphered-bytes}
-use Rattle.message.proofs.Pieces.{piece, take-put}
+use Rattle.message.proofs.Pieces.{take-put}
 use Rattle.message.proofs.Written.{header-length}
 
 module _ (s : Suite) (key : List ℕ) (flag : ℕ) (keyId source : List ℕ) (seqNum : ℕ) (payload : List ℕ) where
@@ -40,10 +41,10 @@ module _ (s : Suite) (key : List ℕ) (flag : ℕ) (keyId source : List ℕ) (se
   pub front-written : (l : List ℕ) {l₁ l₂ : List ℕ} → l₁ ≡ put l 0 (headerBytes flag s keyId seqNum)
       → l₂ ≡ put l₁ (9 + length keyId) (enciphered s (keyWords key) source seqNum payload) → l₂ ≡ put l 0 (frontOf s key flag keyId source seqNum payload)
   unfolding frontOf
-  front-written l w₁ w₂ =
-      piece l 0 (headerBytes flag s keyId seqNum) (9 + length keyId) (enciphered s (keyWords key) source seqNum payload) (omega arith) w₁
-      (zero-add _ ∙ header-length flag s keyId seqNum)
-      w₂
+  front-written l {l₁} w₁ w₂ =
+      let header : Written l 0 (headerBytes flag s keyId seqNum) l₁ (9 + length keyId) =
+      record { ends = sym (zero-add _ ∙ header-length flag s keyId seqNum); is = w₁ } in
+      and-then header (omega arith) (enciphered s (keyWords key) source seqNum payload) _ refl w₂ .is
 
   module _ (l : List ℕ) {done : List ℕ} (is : done ≡ put l 0 (frontOf s key flag keyId source seqNum payload)) where
     -- it can be read off the output
@@ -56,5 +57,7 @@ module _ (s : Suite) (key : List ℕ) (flag : ℕ) (keyId source : List ℕ) (se
         → more ≡ put done (9 + length keyId + length payload) (bytesOf n icv) → more ≡ put l 0 (sealed s key flag keyId source seqNum payload)
     unfolding sealed
     sealed-written icv n right long written =
-        piece l 0 (frontOf s key flag keyId source seqNum payload) (9 + length keyId + length payload) _ (omega arith) is (zero-add _ ∙ front-length)
-        (written ∙ rw (long, right, front-taken))
+        let front : Written l 0 (frontOf s key flag keyId source seqNum payload) done (9 + length keyId + length payload) =
+        record { ends = sym (zero-add _ ∙ front-length); is = is } in
+        let check = icvOf s (keyWords key) source seqNum (frontOf s key flag keyId source seqNum payload) in
+        and-then front (omega arith) (bytesOf (icvLengthOf s) check) _ refl (written ∙ rw (long, right, front-taken)) .is

@@ -47,14 +47,33 @@ put-put l at u v h =
 pub put-behind : (l : List ℕ) (at n : ℕ) (u v : List ℕ) → at ≤ length l → at + length u ≡ n → put (put l at u) n v ≡ put l at (u ++ v)
 put-behind l at n u v h e = ap (λ (k : ℕ). put (put l at u) k v) (sym e) ∙ put-put l at u v h
 
--- four writes, each behind the one before
+-- ---- stretches, each behind the one before
+
+-- a stretch stands at a place of what was the list l, and ends where the next may stand
+pub record Written (l : List ℕ) (at : ℕ) (u now : List ℕ) (end : ℕ) : Type 0 where
+  pub ends : end ≡ at + length u
+  pub is : now ≡ put l at u
+
+module _ {l : List ℕ} {at : ℕ} {u now : List ℕ} {end : ℕ} (w : Written l at u now end) (room : at ≤ length l) where
+  pub further : {v more : List ℕ} {last : ℕ} → Written now end v more last → Written l at (u ++ v) more last
+  further {v} x = record {
+    ends = x .ends ∙ rw (w .ends, length-append) (add-assoc at (length u) (length v));
+    is = x .is ∙ ap (λ (o : List ℕ). put o end v) (w .is) ∙ put-behind l at end u v room (sym (w .ends));
+  }
+
+  -- by its length
+  pub and-then : (v : List ℕ) {more : List ℕ} (last : ℕ) → end + length v ≡ last → more ≡ put now end v → Written l at (u ++ v) more last
+  and-then v last long e = further (record { ends = sym long; is = e })
+
+-- four of them
 pub put-four : (l one two three four : List ℕ) (at p q r : ℕ) (a b c d : List ℕ) → at ≤ length l
     → at + length a ≡ p → p + length b ≡ q → q + length c ≡ r
     → one ≡ put l at a → two ≡ put one p b → three ≡ put two q c → four ≡ put three r d → four ≡ put l at (a ++ b ++ c ++ d)
 put-four l one two three four at p q r a b c d h x y z e f g k =
-    let to-two : two ≡ put l at (a ++ b) = rw (f, e) (put-behind l at p a b h x) in
-    let to-three : three ≡ put l at (a ++ b ++ c) = rw (g, to-two) (put-behind l at q (a ++ b) c h (rw length-append (omega arith))) in
-    rw (k, to-three) (put-behind l at r (a ++ b ++ c) d h (simp length-append (omega arith)))
+    let first : Written l at a one p = record { ends = sym x; is = e } in
+    let second = and-then first h b q y f in
+    let third = and-then second h c r z g in
+    and-then third h d _ refl k .is
 
 -- a loop that writes a number from its lowest byte down: a turn of it, and its end
 pub one-lower : (out : List ℕ) (at i x : ℕ) → at + i < length out

@@ -77,8 +77,8 @@ returns c =
     let e₄ = fourth .write-hex-line2 .ensures in
     let e₅ = fifth .write-decimal-line3 .ensures in
     let e₆ = sixth .write-decimal-line4 .ensures in
-    let w = settled-written (a .out .now) (a .i) (a .slot .now) (e₁ .0 .0, e₁ .1) (e₂ .0 .0, e₂ .1) (e₃ .0 .0, e₃ .1) (e₄ .0 .0, e₄ .1) (e₅ .0 .0, e₅ .1)
-    (sixth .before .before .read .ensures .0) (e₆ .0 .0, e₆ .1) in
+    let w = settled-written (a .out .now) (a .i) (a .slot .now) (record { ends = e₁ .0 .0; is = e₁ .1 }) (record { ends = e₂ .0 .0; is = e₂ .1 }) (record { ends = e₃ .0 .0; is = e₃ .1 }) (record { ends = e₄ .0 .0; is = e₄ .1 }) (record { ends = e₅ .0 .0; is = e₅ .1 })
+    (sixth .before .before .read .ensures .0) (record { ends = e₆ .0 .0; is = e₆ .1 }) in
     let f = fifth-end fifth in
     ((w .0, omega (arith, e₆ .0 .1)), w .1)
 
