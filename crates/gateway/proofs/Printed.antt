@@ -9,8 +9,8 @@ use native.Mathlib.Omega.{arith}
 use lib.Dec.{lit<}
 use lib.ListN.{length, getD, take, drop, length-take, length-drop, drop-of-length-le}
 use lib.Seq.{length-take-le, drop-append-le, drop-at, drop-drop, take-add}
-use Rattle.octets.specs.Octets.{bigEndian, bytesOf, part, put}
-use Rattle.octets.proofs.BigEndian.{Bytes, bytes-drop, length-bytes, bytes-number}
+use Rattle.octets.specs.Octets.{Bytes, bigEndian, bytesOf, part, put}
+use Rattle.octets.proofs.BigEndian.{bytes-drop, length-bytes, bytes-number}
 use Rattle.octets.proofs.Parts.{length-part}
 use Rattle.message.proofs.KeyIds.{length-most}
 use Rattle.gateway.specs.Table.{flagOf, csOf, keyIdOf, sourceOf}

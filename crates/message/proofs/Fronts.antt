@@ -6,9 +6,9 @@ use Prim.Native.Nat.{ℕ, _+_, _*_, _^_}
 use native.Mathlib.Nat.{zero-add}
 use native.Mathlib.Omega.{arith}
 use lib.ListN.{length, take, length-append}
-use Rattle.octets.specs.Octets.{bytesOf, put}
+use Rattle.octets.specs.Octets.{Bytes, bytesOf, put}
 use Rattle.octets.proofs.Places.{Written, and-then}
-use Rattle.octets.proofs.BigEndian.{Bytes, bytes-append, bytes-small}
+use Rattle.octets.proofs.BigEndian.{bytes-append, bytes-small}
 use Rattle.magma.specs.Magma.{keyWords}
 use Rattle.message.specs.Suite.{numberOf, icvLengthOf}
 use Rattle.message.specs.Header.{headerBytes}

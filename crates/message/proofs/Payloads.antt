@@ -5,7 +5,7 @@ use mathlib.Core.List.{List}
 use Prim.Native.Nat.{ℕ, _*_, _^_, _<_}
 use native.Mathlib.Omega.{arith}
 use lib.ListN.{length}
-use Rattle.octets.proofs.BigEndian.{Bytes}
+use Rattle.octets.specs.Octets.{Bytes}
 use Rattle.modes.proofs.Gamma.{counter-length, counter-bytes, counter-twice}
 use Rattle.modes.proofs.Widths.{check-lt}
 use Rattle.message.specs.Derivation.{checkKey}

@@ -8,7 +8,8 @@ use native.Mathlib.Omega.{arith}
 use borrow.Author.Tests.{ltb-false}
 use lib.Dec.{eqb, ltb}
 use lib.ListN.{length, drop}
-use Rattle.octets.proofs.BigEndian.{Bytes, bytes-drop, number-lt}
+use Rattle.octets.specs.Octets.{Bytes}
+use Rattle.octets.proofs.BigEndian.{bytes-drop, number-lt}
 use Rattle.message.specs.KeyId.{lengthOf}
 use Rattle.message.specs.Suite.{suiteOf, icvLengthOf}
 use Rattle.message.specs.Header.{flagIn, versionIn, csIn, keyIdIn, seqNumIn, readAs, readOf, refusalOf}

@@ -8,8 +8,8 @@ use native.Mathlib.Nat.{mod-eq-of-lt}
 use native.Mathlib.Omega.{arith}
 use lib.ListN.{length, getD, take, drop, length-append}
 use lib.Seq.{take-at, drop-at}
-use Rattle.octets.specs.Octets.{bytesOf}
-use Rattle.octets.proofs.BigEndian.{Bytes, length-bytes, number-bytes}
+use Rattle.octets.specs.Octets.{Bytes, bytesOf}
+use Rattle.octets.proofs.BigEndian.{length-bytes, number-bytes}
 use Rattle.magma.specs.Magma.{keyWords}
 use Rattle.message.specs.KeyId.{lengthOf}
 use Rattle.message.specs.Suite.{icvLengthOf}

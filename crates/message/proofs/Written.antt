@@ -5,8 +5,8 @@ use mathlib.Core.List.{List, [], _++_}
 use Prim.Native.Nat.{ℕ, _+_, _*_, _/_, _^_, _≤_, _<_}
 use native.Mathlib.Omega.{arith}
 use lib.ListN.{length, getD, length-append, List·getD-append}
-use Rattle.octets.specs.Octets.{bytesOf, put}
-use Rattle.octets.proofs.BigEndian.{Bytes, length-bytes, number-there}
+use Rattle.octets.specs.Octets.{Bytes, bytesOf, put}
+use Rattle.octets.proofs.BigEndian.{length-bytes, number-there}
 use Rattle.octets.proofs.Places.{put-four}
 use Rattle.message.specs.KeyId.{keyIdOf, lengthAsked}
 use Rattle.message.specs.Suite.{suiteOf, numberOf, icvLengthOf}

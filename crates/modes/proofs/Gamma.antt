@@ -11,8 +11,8 @@ use lib.Dec.{lit<}
 use lib.ListN.{length, getD, take, drop, length-take, length-drop}
 use lib.Seq.{paste}
 use Rattle.numbers.proofs.Xor.{xor-twice}
-use Rattle.octets.specs.Octets.{part, put}
-use Rattle.octets.proofs.BigEndian.{Bytes, bytes-small}
+use Rattle.octets.specs.Octets.{Bytes, part, put}
+use Rattle.octets.proofs.BigEndian.{bytes-small}
 use Rattle.octets.proofs.Places.{put-next}
 use Rattle.modes.specs.Modes.{byteOf, gamma, masked, counterMode}
 

@@ -7,8 +7,8 @@ use native.Mathlib.Omega.{arith}
 use lib.Bits.{xor-lt}
 use lib.Dec.{eqb, lit<}
 use lib.ListN.{length, drop}
-use Rattle.octets.specs.Octets.{bytesOf}
-use Rattle.octets.proofs.BigEndian.{Bytes, bytes-drop, number-lt, bytes-append, bytes-small}
+use Rattle.octets.specs.Octets.{Bytes, bytesOf}
+use Rattle.octets.proofs.BigEndian.{bytes-drop, number-lt, bytes-append, bytes-small}
 use Rattle.magma.specs.Magma.{encrypted}
 use Rattle.magma.proofs.Widths.{encrypted-lt}
 use Rattle.modes.specs.Modes.{doubled, firstSubkey, secondSubkey, block, before, chained, lastKey, checkWith, magmaCheck}

@@ -12,11 +12,7 @@ use lib.ListN.{length, getD, take, drop, length-append, List·getD-append, List�
 use lib.Pow.{pow-pos, pow-mono, shr-shr}
 use lib.Seq.{getD-at, getD-drop, drop-at, take-suc}
 use Rattle.numbers.proofs.Digits.{width}
-use Rattle.octets.specs.Octets.{bigEndian, bytesOf}
-
--- every number of a list is a byte
-abbrev pub Bytes : List ℕ → Type 0
-Bytes l = (i : ℕ) → getD l i 0 < 256
+use Rattle.octets.specs.Octets.{Bytes, bigEndian, bytesOf}
 
 pub bytes-drop : (n : ℕ) (l : List ℕ) → Bytes l → Bytes (drop n l)
 bytes-drop n l b i = rw (getD-drop n l i 0) (b (n + i))

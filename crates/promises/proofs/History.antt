@@ -3,14 +3,13 @@
 -- Assumes nothing.
 use mathlib.Core.Path.{_≡_, refl, sym, ap, _∙_}
 use mathlib.Core.Bool.{Bool, true, false, cond, true≢false, not-eq-not}
-use mathlib.Core.List.{List, []}
+use mathlib.Core.List.{List, [], _∷_, _++_}
 use Prim.Native.Nat.{ℕ}
 use native.Mathlib.Omega.{arith}
 use borrow.Author.Tests.{eq-eqb}
 use lib.Dec.{ltb}
 use lib.ListN.{length}
-use Rattle.octets.specs.Octets.{put}
-use Rattle.octets.proofs.BigEndian.{Bytes}
+use Rattle.octets.specs.Octets.{Bytes, put}
 use Rattle.message.specs.Header.{readOf}
 use Rattle.message.specs.Sealing.{opened}
 use Rattle.message.specs.declared.header.Header.{Header}
@@ -21,9 +20,10 @@ use Rattle.gateway.specs.Lookup.{leadsTo}
 use Rattle.gateway.specs.Install.{doneAt}
 use Rattle.gateway.specs.Receive.{kept, parsed, received, keyIdBytes}
 use Rattle.gateway.specs.declared.lookup.Found.the-variants.{At}
-use Rattle.promises.specs.History.{KeyData, Call, arrival, install, entered, after, run, Message, nothing, one, handed, handedBy, isOf, genuine, brought, numbers, isIn, isNew, provided, counts, noted, countedFrom, counted, OfBytes, Spares, SpareAll, Accounts}
+use Rattle.promises.specs.History.{KeyData, Call, arrival, install, entered, after, run, Message, nothing, one, handed, handedBy, isOf, genuine, brought, numbers, isIn, isNew, provided, counts, noted, countedFrom, counted, OfBytes, AllOfBytes, Spares, SpareAll, Accounts}
 use Rattle.promises.proofs.Held.{Sane, names-facts, names-test, leads-here, leads-named}
 use Rattle.promises.proofs.Cascade.{NotSeven, either, arrived-whole}
+use Rattle.promises.proofs.Lengths.{run-long, run-append}
 use Rattle.promises.proofs.Steps.{Stands, arrives, step}
 use Rattle.promises.proofs.Runs.{begins, stands-on, hands-on, stays-in, accounts, counted-new}
 
@@ -113,6 +113,13 @@ module _ (t : List ℕ) (long : length t ≡ 4608) (k : KeyData) (b : Bytes (k .
         by false BadVersion e = refl
         by false BadSuite e = refl
         by false TooShort e = refl
+
+-- The same for an install anywhere in a sequence of calls on a table: whatever calls came before it, a removal of the same slot among them.
+pub history-within : (t : List ℕ) → length t ≡ 4608 → (before : List Call) → AllOfBytes before
+    → (k : KeyData) → Bytes (k .keyId) → (i : ℕ) → entered (run t before) k .answer ≡ doneAt i
+    → (cs : List Call) → SpareAll i cs → Accounts k i (run t (before ++ install k ∷ cs)) (counted k cs)
+history-within t long before all k b i done cs s =
+    rw (run-append t before (install k ∷ cs)) (history (run t before) (run-long t long before all) k b i done cs s)
 
 -- The totals depend on the install and the calls after it alone: in any other table, at any other slot, they are the same.
 pub same-totals : (t u : List ℕ) → length t ≡ 4608 → length u ≡ 4608 → (k : KeyData) → Bytes (k .keyId) → (i j : ℕ) → entered t k .answer ≡ doneAt i → entered u k .answer ≡ doneAt j

@@ -3,6 +3,7 @@ pub mod Counting
 pub mod Determined
 pub mod Held
 pub mod History
+pub mod Lengths
 pub mod Refusals
 pub mod Replies
 pub mod RoundTrip

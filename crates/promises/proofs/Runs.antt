@@ -8,7 +8,7 @@ use Prim.Native.Nat.{ℕ}
 use native.Mathlib.Omega.{arith}
 use lib.Dec.{eqb, ltb}
 use lib.ListN.{length, length-map}
-use Rattle.octets.proofs.BigEndian.{Bytes}
+use Rattle.octets.specs.Octets.{Bytes}
 use Rattle.window.specs.Window.{floorAt}
 use Rattle.window.specs.Entry.{Entry}
 use Rattle.message.specs.declared.answer.Answer.{Answer}

@@ -9,8 +9,7 @@ use native.Mathlib.Omega.{arith}
 use borrow.Author.Tests.{eqb-true, eqb-false, eq-eqb, ne-eqb, not-false}
 use lib.Dec.{eqb, ltb, lit≤}
 use lib.ListN.{length, getD, length-replicate}
-use Rattle.octets.specs.Octets.{put}
-use Rattle.octets.proofs.BigEndian.{Bytes}
+use Rattle.octets.specs.Octets.{Bytes, put}
 use Rattle.window.specs.Window.{floorAt, judge, verdictOf}
 use Rattle.window.specs.Entry.{Entry, taken}
 use Rattle.window.specs.declared.Verdict.{Verdict}

@@ -5,8 +5,7 @@ use mathlib.Core.List.{List, [], _∷_, map}
 use Prim.Native.Nat.{ℕ, _+_, max}
 use lib.Dec.{eqb, ltb}
 use lib.ListN.{length}
-use Rattle.octets.specs.Octets.{same}
-use Rattle.octets.proofs.BigEndian.{Bytes}
+use Rattle.octets.specs.Octets.{Bytes, same}
 use Rattle.window.specs.Window.{floorAt}
 use Rattle.message.specs.Suite.{numberOf}
 use Rattle.message.specs.Header.{readOf}
@@ -150,6 +149,10 @@ abbrev pub OfBytes : Call → Type 0
 OfBytes (arrival message source out) = Bytes message
 OfBytes (install k) = Bytes (k .keyId)
 OfBytes (remove i) = Unit {0}
+
+abbrev pub AllOfBytes : List Call → Type 0
+AllOfBytes [] = Unit {0}
+AllOfBytes (c ∷ cs) = OfBytes c × AllOfBytes cs
 
 -- the slot i is not removed
 abbrev pub Spares : ℕ → Call → Type 0
