@@ -71,72 +71,102 @@ static int receives(int suite, size_t length, int slot, int damage, uint64_t n, 
     return 0;
 }
 
-static int run(const char *name, uint64_t n)
+/* ---- the operations */
+
+static int block(uint64_t n)
 {
     uint64_t x = 0;
-    if (!strcmp(name, "block")) {
-        while (n--) {
 #ifdef PLAIN
-            x = ref_block(key, x);
+    while (n--) x = ref_block(key, x);
 #else
-            x = cipher_block(key, x);
+    while (n--) x = cipher_block(key, x);
 #endif
-        }
-    } else if (!strcmp(name, "check-2048")) {
-        while (n--) {
-#ifdef PLAIN
-            x ^= ref_check(key, data, 2048);
-#else
-            x ^= cipher_check(key, data, 2048);
-#endif
-        }
-    } else if (!strcmp(name, "counter-2048")) {
-        while (n--) {
-#ifdef PLAIN
-            ref_counter(key, (uint32_t)n, data, 2048, out);
-#else
-            if (!cipher_counter(key, (uint32_t)n, data, 2048, out)) return 1;
-#endif
-        }
-    } else if (!strcmp(name, "keys-suite-1")) {
-        while (n--) {
-#ifdef PLAIN
-            uint32_t check[8], cipher[8];
-            ref_keys(key, 1, source, 12, n, check, cipher);
-            x ^= check[0] ^ cipher[7];
-#else
-            struct cipher_keys k = cipher_keys_1(key, source, n);
-            x ^= k.check[0] ^ k.cipher[7];
-#endif
-        }
-    } else if (!strcmp(name, "keys-suite-2")) {
-        while (n--) {
-#ifdef PLAIN
-            uint32_t check[8];
-            ref_keys(key, 2, source, 12, n, check, NULL);
-            x ^= check[7];
-#else
-            struct cipher_key k = cipher_key_2(key, source, n);
-            x ^= k.check[7];
-#endif
-        }
-    } else if (!strcmp(name, "receive-A.1")) return receives(1, 37, 0, -1, n, 0);
-    else if (!strcmp(name, "receive-A.2")) return receives(2, 37, 0, -1, n, 0);
-    else if (!strcmp(name, "receive-2048-suite-1")) return receives(1, 2034, 0, -1, n, 0);
-    else if (!strcmp(name, "receive-2048-suite-2")) return receives(2, 2034, 0, -1, n, 0);
-    else if (!strcmp(name, "receive-A.1-slot-15")) return receives(1, 37, 15, -1, n, 0);
-    else if (!strcmp(name, "refuse-version")) return receives(1, 37, 0, 1, n, 3);
-    else if (!strcmp(name, "refuse-no-entry")) return receives(1, 37, 0, 3, n, 6);
-    else if (!strcmp(name, "refuse-no-entry-16-slots")) return receives(1, 37, 15, 3, n, 6);
-    else if (!strcmp(name, "refuse-icv")) return receives(1, 37, 0, 50, n, 11);
-    else if (!strcmp(name, "protect-A.1")) return protects(1, 37, n);
-    else if (!strcmp(name, "protect-A.2")) return protects(2, 37, n);
-    else if (!strcmp(name, "protect-2048-suite-1")) return protects(1, 2034, n);
-    else if (!strcmp(name, "protect-2048-suite-2")) return protects(2, 2034, n);
-    else return 2;
     sink = x;
     return 0;
 }
+
+static int check_2048(uint64_t n)
+{
+    uint64_t x = 0;
+#ifdef PLAIN
+    while (n--) x ^= ref_check(key, data, 2048);
+#else
+    while (n--) x ^= cipher_check(key, data, 2048);
+#endif
+    sink = x;
+    return 0;
+}
+
+static int counter_2048(uint64_t n)
+{
+    while (n--) {
+#ifdef PLAIN
+        ref_counter(key, (uint32_t)n, data, 2048, out);
+#else
+        if (!cipher_counter(key, (uint32_t)n, data, 2048, out)) return 1;
+#endif
+    }
+    return 0;
+}
+
+static int keys_suite_1(uint64_t n)
+{
+    uint64_t x = 0;
+    while (n--) {
+#ifdef PLAIN
+        uint32_t check[8], cipher[8];
+        ref_keys(key, 1, source, 12, n, check, cipher);
+        x ^= check[0] ^ cipher[7];
+#else
+        struct cipher_keys k = cipher_keys_1(key, source, n);
+        x ^= k.check[0] ^ k.cipher[7];
+#endif
+    }
+    sink = x;
+    return 0;
+}
+
+static int keys_suite_2(uint64_t n)
+{
+    uint64_t x = 0;
+    while (n--) {
+#ifdef PLAIN
+        uint32_t check[8];
+        ref_keys(key, 2, source, 12, n, check, NULL);
+        x ^= check[7];
+#else
+        struct cipher_key k = cipher_key_2(key, source, n);
+        x ^= k.check[7];
+#endif
+    }
+    sink = x;
+    return 0;
+}
+
+static int receive_a_1(uint64_t n) { return receives(1, 37, 0, -1, n, 0); }
+static int receive_a_2(uint64_t n) { return receives(2, 37, 0, -1, n, 0); }
+static int receive_2048_1(uint64_t n) { return receives(1, 2034, 0, -1, n, 0); }
+static int receive_2048_2(uint64_t n) { return receives(2, 2034, 0, -1, n, 0); }
+static int receive_slot_15(uint64_t n) { return receives(1, 37, 15, -1, n, 0); }
+static int refuse_version(uint64_t n) { return receives(1, 37, 0, 1, n, 3); }
+static int refuse_no_entry(uint64_t n) { return receives(1, 37, 0, 3, n, 6); }
+static int refuse_no_entry_16(uint64_t n) { return receives(1, 37, 15, 3, n, 6); }
+static int refuse_icv(uint64_t n) { return receives(1, 37, 0, 50, n, 11); }
+static int protect_a_1(uint64_t n) { return protects(1, 37, n); }
+static int protect_a_2(uint64_t n) { return protects(2, 37, n); }
+static int protect_2048_1(uint64_t n) { return protects(1, 2034, n); }
+static int protect_2048_2(uint64_t n) { return protects(2, 2034, n); }
+
+static const struct {
+    const char *name;
+    int (*run)(uint64_t n);
+} operations[] = {
+    {"block", block}, {"check-2048", check_2048}, {"counter-2048", counter_2048}, {"keys-suite-1", keys_suite_1}, {"keys-suite-2", keys_suite_2},
+    {"receive-A.1", receive_a_1}, {"receive-A.2", receive_a_2}, {"receive-2048-suite-1", receive_2048_1}, {"receive-2048-suite-2", receive_2048_2},
+    {"receive-A.1-slot-15", receive_slot_15}, {"refuse-version", refuse_version}, {"refuse-no-entry", refuse_no_entry},
+    {"refuse-no-entry-16-slots", refuse_no_entry_16}, {"refuse-icv", refuse_icv}, {"protect-A.1", protect_a_1}, {"protect-A.2", protect_a_2},
+    {"protect-2048-suite-1", protect_2048_1}, {"protect-2048-suite-2", protect_2048_2},
+};
 
 int main(int argc, char **argv)
 {
@@ -144,5 +174,7 @@ int main(int argc, char **argv)
     for (size_t i = 0; i < sizeof data; i++) data[i] = (uint8_t)(i * 7 + 3);
     memcpy(data, payload_a, 37);
     for (int i = 0; i < 32; i++) key[i / 4] = key[i / 4] << 8 | key_bytes[i];
-    return run(argv[2], strtoull(argv[1], NULL, 10));
+    for (size_t i = 0; i < sizeof operations / sizeof *operations; i++)
+        if (!strcmp(argv[2], operations[i].name)) return operations[i].run(strtoull(argv[1], NULL, 10));
+    return 2;
 }

@@ -276,48 +276,74 @@ static void back(void)
     traced = 0;
 }
 
-static void sweep(int i, size_t payload)
+static uint8_t swept[2048];
+static size_t swept_length;
+
+/* the next message of sender i is kept in `swept` */
+static int next_message(int i, const uint8_t *payload, size_t n)
 {
-    static uint8_t bytes[2048], data[2048];
-    struct crisp_sender *s = &senders[i];
-    clear_tables();
-    traced = 0;
-    call_install(s, sizes[i], 32);
-    fill(data, payload);
-    struct crisp_answer a = call_protect(s, &ref_senders[i], data, payload, 2048);
-    if (a.reply) return;
-    size_t n = a.length;
-    memcpy(bytes, out, n);
-    memcpy(saved, table, CRISP_TABLE);
-    for (size_t cut = 0; cut <= n; cut++) back(), call_receive(bytes, cut, s->source, s->source_len, 2048);
-    for (size_t at = 0; at < n; at++)
-        for (int bit = 0; bit < 8; bit++) {
-            back();
-            bytes[at] ^= (uint8_t)(1 << bit);
-            call_receive(bytes, n, s->source, s->source_len, 2048);
-            bytes[at] ^= (uint8_t)(1 << bit);
-        }
-    for (size_t room = 0; room <= 2060; room += room < 2030 && room > 3 ? 127 : 1) {
-        back(), call_receive(bytes, n, s->source, s->source_len, room);
-        call_listing(0, room);
-        call_protect(s, &ref_senders[i], data, payload, room);
+    struct crisp_answer a = call_protect(&senders[i], &ref_senders[i], payload, n, 2048);
+    memcpy(swept, out, sizeof swept);
+    swept_length = a.length;
+    return a.reply == 0;
+}
+
+static void arrives(int i, size_t n, size_t source_len, size_t room) { call_receive(swept, n, senders[i].source, source_len, room); }
+
+/* cut at every length, every bit flipped, every length of the source */
+static void sweep_message(int i)
+{
+    size_t source_len = senders[i].source_len;
+    for (size_t cut = 0; cut <= swept_length; cut++) back(), arrives(i, cut, source_len, 2048);
+    for (size_t bit = 0; bit < 8 * swept_length; bit++) {
+        back();
+        swept[bit / 8] ^= (uint8_t)(1 << bit % 8);
+        arrives(i, swept_length, source_len, 2048);
+        swept[bit / 8] ^= (uint8_t)(1 << bit % 8);
     }
-    for (size_t length = 0; length <= 32; length++) back(), call_receive(bytes, n, s->source, length, 2048);
-    back();
-    call_receive(bytes, n, s->source, s->source_len, 2048);
-    call_receive(bytes, n, s->source, s->source_len, 2048);                     /* replayed */
-    memcpy(saved, table, CRISP_TABLE);
-    call_protect(s, &ref_senders[i], data, payload, 2048);
-    memcpy(bytes, out, n);
-    for (size_t at = 0; at < 288; at++)                                         /* a damaged entry, byte by byte */
+    for (size_t length = 0; length <= 32; length++) back(), arrives(i, swept_length, length, 2048);
+}
+
+/* outputs of every size around 2,048, and some below */
+static void sweep_room(int i, const uint8_t *payload, size_t n)
+{
+    for (size_t room = 0; room <= 2060; room += room > 3 && room < 2030 ? 127 : 1) {
+        back(), arrives(i, swept_length, senders[i].source_len, room);
+        call_listing(0, room);
+        call_protect(&senders[i], &ref_senders[i], payload, n, room);
+    }
+}
+
+/* each byte of the entry replaced, and every function on what is left of it */
+static void sweep_damage(int i)
+{
+    for (size_t at = 0; at < 288; at++)
         for (int v = 0; v < 4; v++) {
             back();
             table[at] = ref_table[at] = (uint8_t)(v == 0 ? 0 : v == 1 ? 255 : v == 2 ? saved[at] + 1 : saved[at] ^ 0x80);
-            call_receive(bytes, n, s->source, s->source_len, 2048);
+            say("byte %zu becomes %02x\n", at, table[at]);
+            arrives(i, swept_length, senders[i].source_len, 2048);
             call_listing(0, 2048);
-            call_install(s, sizes[i], 32);
+            call_install(&senders[i], sizes[i], 32);
             call_remove(0);
         }
+}
+
+static void sweep(int i, size_t n)
+{
+    static uint8_t payload[2048];
+    fill(payload, n);
+    clear_tables();
+    traced = 0;
+    call_install(&senders[i], sizes[i], 32);
+    if (!next_message(i, payload, n)) return;
+    memcpy(saved, table, CRISP_TABLE);
+    sweep_message(i);
+    sweep_room(i, payload, n);
+    back();
+    for (int twice = 0; twice < 2; twice++) arrives(i, swept_length, senders[i].source_len, 2048);      /* and replayed */
+    memcpy(saved, table, CRISP_TABLE);
+    if (next_message(i, payload, n)) sweep_damage(i);
 }
 
 static void sweep_payloads(void)
