@@ -16,7 +16,7 @@ use message::key_data;
 use window::Window;
 
 // The window that a slot holds.
-pub fn window_in(slot: &[u8]) -> Window
+pub(crate) fn window_in(slot: &[u8]) -> Window
     requires { ⌜ length (now slot) ≡ 288 ⌝ }
     ensures { λ r. ⌜ viewOf r ≡ windowOf (now (slot .entry)) ⌝ }
 {
@@ -33,7 +33,7 @@ pub fn window_in(slot: &[u8]) -> Window
 }
 
 // Whether the damage rule finds nothing in a slot.
-pub fn is_undamaged(slot: &[u8]) -> bool
+pub(crate) fn is_undamaged(slot: &[u8]) -> bool
     requires { ⌜ length (now slot) ≡ 288 ⌝ }
     ensures { λ r. ⌜ r ≡ undamaged (now (slot .entry)) ⌝ }
 {
@@ -86,7 +86,7 @@ fn is_sound(slot: &[u8]) -> bool
 }
 
 // The entry in a slot takes a message: a number that its window finds admissible, and a payload of so many bytes.
-pub fn take(table: &mut [u8], slot: usize, window: Window, number: u64, payload: usize)
+pub(crate) fn take(table: &mut [u8], slot: usize, window: Window, number: u64, payload: usize)
     requires { ⌜ (length (now table) ≡ 4608) × (slot < 16) × (payload ≤ 2048) ⌝ }
     requires { ⌜ (undamaged (slotOf (now table) slot) ≡ true) × (viewOf window ≡ windowOf (slotOf (now table) slot)) × (verdictOf (viewOf window) number ≡ Admissible) ⌝ }
     ensures { λ _. ⌜ now (table .exit) ≡ settled (now (table .entry)) slot (taken (entryOf (slotOf (now (table .entry)) slot)) number payload) ⌝ }

@@ -144,7 +144,7 @@ total (x ∷ past) = total past + x .payload
 
 -- ---- demand 3
 
--- what any caller hands in is bytes
+-- messages and KeyIds are of bytes, as all that a caller can hand in is
 abbrev pub OfBytes : Call → Type 0
 OfBytes (arrival message source out) = Bytes message
 OfBytes (install k) = Bytes (k .keyId)
@@ -160,6 +160,7 @@ Spares i (arrival message source out) = Unit {0}
 Spares i (install k) = Unit {0}
 Spares i (remove j) = j ≡ i → ⊥
 
+-- calls of bytes, none of which removes the slot i
 abbrev pub SpareAll : ℕ → List Call → Type 0
 SpareAll i [] = Unit {0}
 SpareAll i (c ∷ cs) = OfBytes c × Spares i c × SpareAll i cs

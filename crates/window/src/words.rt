@@ -7,7 +7,7 @@ ghost use lib.Dec.{ltb};
 ghost use Rattle.numbers.specs.Digits.{bit, fromDigits};
 
 // The number moved up by d bits: by whole words first, at most four times, and then by the rest.
-pub fn shifted(m: [u64; 4], d: u64) -> [u64; 4]
+pub(crate) fn shifted(m: [u64; 4], d: u64) -> [u64; 4]
     requires { ⌜ d ≤ 256 ⌝ }
     ensures { λ r. ⌜ fromDigits 64 r ≡ fromDigits 64 m * 2 ^ d % 2 ^ 256 ⌝ }
 {
@@ -22,7 +22,7 @@ pub fn shifted(m: [u64; 4], d: u64) -> [u64; 4]
 }
 
 // The lowest s bits of the number.
-pub fn cut(m: [u64; 4], s: u64) -> [u64; 4]
+pub(crate) fn cut(m: [u64; 4], s: u64) -> [u64; 4]
     ensures { λ r. ⌜ fromDigits 64 r ≡ fromDigits 64 m % 2 ^ s ⌝ }
 {
     [
@@ -34,7 +34,7 @@ pub fn cut(m: [u64; 4], s: u64) -> [u64; 4]
 }
 
 // Whether the number has at most s bits.
-pub fn within(m: [u64; 4], s: u64) -> bool
+pub(crate) fn within(m: [u64; 4], s: u64) -> bool
     ensures { λ r. ⌜ r ≡ ltb (fromDigits 64 m) (2 ^ s) ⌝ }
 {
     let kept = cut(m, s);
@@ -49,7 +49,7 @@ pub fn within(m: [u64; 4], s: u64) -> bool
 }
 
 // Whether the bit of value 2^i is set.
-pub fn has_bit(m: [u64; 4], i: u64) -> bool
+pub(crate) fn has_bit(m: [u64; 4], i: u64) -> bool
     ensures { λ r. ⌜ r ≡ bit (fromDigits 64 m) i ⌝ }
 {
     if 256 <= i {
@@ -61,7 +61,7 @@ pub fn has_bit(m: [u64; 4], i: u64) -> bool
 }
 
 // The number with the bit of value 2^i, which it lacks.
-pub fn with_bit(m: [u64; 4], i: u64) -> [u64; 4]
+pub(crate) fn with_bit(m: [u64; 4], i: u64) -> [u64; 4]
     requires { ⌜ (i < 256) × (bit (fromDigits 64 m) i ≡ false) ⌝ }
     ensures { λ r. ⌜ fromDigits 64 r ≡ fromDigits 64 m + 2 ^ i ⌝ }
 {
@@ -73,7 +73,7 @@ pub fn with_bit(m: [u64; 4], i: u64) -> [u64; 4]
 }
 
 // How many bits are set.
-pub fn count(m: [u64; 4]) -> u64
+pub(crate) fn count(m: [u64; 4]) -> u64
     ensures { λ r. ⌜ (r ≡ onesIn 256 (fromDigits 64 m)) × (r ≤ 256) ⌝ }
 {
     let mut total: u32 = 0;
