@@ -63,7 +63,7 @@ static int receives(int suite, size_t length, int slot, int damage, uint64_t n, 
     if (a.reply) return 1;
     if (damage >= 0) message[damage] ^= 1;
     memcpy(saved, table, sizeof table);
-    uint8_t *window = table + 288 * slot + 205, *before = saved + 288 * slot + 205;
+    uint8_t *window = table + 288 * slot + 214, *before = saved + 288 * slot + 214;
     while (n--) {
         memcpy(window, before, 56);
         if (crisp_receive(table, message, a.length, source, 12, out, sizeof out).reply != reply) return 1;

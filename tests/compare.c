@@ -221,7 +221,7 @@ static void random_receive(void)
 
 static void random_damage(void)
 {
-    size_t at = below(4) ? 288 * below(16) + below(288) : 288 * below(3) + 197 + below(64);
+    size_t at = below(4) ? 288 * below(16) + below(288) : 288 * below(3) + 198 + below(72);
     uint8_t x = below(2) ? (uint8_t)rnd() : (uint8_t)(table[at] ^ 1 << below(8));
     say("byte %zu of the table becomes %02x\n", at, x);
     table[at] = ref_table[at] = x;

@@ -156,8 +156,8 @@ static int sound(u8 flag, const u8 *keyid, size_t keyid_len, size_t source_len, 
 
 /* ---- the table: where the parts of an entry stand in its slot (docs/DECISIONS.md, 13) */
 
-enum { SLOT = 288, FLAG = 1, SUITE = 2, KEYID_LEN = 3, KEYID = 4, SOURCE_LEN = 132, SOURCE = 133, KEY = 165, SIZE = 197, HIGHEST = 205, MARKS = 213,
-       ACCEPTED = 245, BYTES = 253 };
+enum { SLOT = 288, FLAG = 1, SUITE = 2, KEYID_LEN = 4, KEYID = 5, SOURCE_LEN = 133, SOURCE = 134, KEY = 166, SIZE = 198, HIGHEST = 214, MARKS = 222,
+       ACCEPTED = 254, BYTES = 262 };
 
 #define LAST 0xffffffffffffULL
 

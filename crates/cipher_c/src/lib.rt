@@ -7,24 +7,23 @@ ghost use lib.ListN.{length};
 ghost use Rattle.octets.specs.Octets.{put};
 ghost use Rattle.magma.specs.Magma.{encrypted};
 ghost use Rattle.modes.specs.Modes.{magmaCheck, magmaCounter};
-ghost use Rattle.message.specs.Derivation.{keyFrom};
-ghost use Rattle.message.specs.declared.suite.Suite.the-variants.{MagmaCtr, MagmaNull};
-use message::derivation;
-use message::suite::Suite;
+ghost use Rattle.derivation.specs.Derivation.{keyFrom};
+ghost use Rattle.format.specs.declared.suite.Suite.the-variants.{MagmaCtr, MagmaNull};
+use format::suite::Suite;
 
 // The most bytes that the counter mode here takes.
 pub const LONGEST: usize = 2048;
 
 // The two keys of suite 1.
 #[repr(C)]
-pub struct Keys {
+pub struct BothKeys {
     pub check: [u32; 8],
     pub cipher: [u32; 8],
 }
 
 // The key of suite 2.
 #[repr(C)]
-pub struct Key {
+pub struct CheckKey {
     pub check: [u32; 8],
 }
 
@@ -64,12 +63,12 @@ pub extern "C" fn cipher_counter(
 
 // The keys of suite 1 for a source of 12 bytes.
 #[no_mangle]
-pub extern "C" fn cipher_keys_1(base: &[u32; 8], source: &[u8; 12], seqnum: u64) -> Keys
+pub extern "C" fn cipher_keys_1(base: &[u32; 8], source: &[u8; 12], seqnum: u64) -> BothKeys
     ensures { λ r. ⌜ r .check ≡ keyFrom (now (base .entry)) MagmaCtr (now (source .entry)) seqnum 1 ⌝ }
     ensures { λ r. ⌜ r .cipher ≡ keyFrom (now (base .entry)) MagmaCtr (now (source .entry)) seqnum 5 ⌝ }
 {
     let subkeys = modes::subkeys_of(base);
-    Keys {
+    BothKeys {
         check: derivation::derived_key(
             base,
             subkeys,
@@ -91,11 +90,11 @@ pub extern "C" fn cipher_keys_1(base: &[u32; 8], source: &[u8; 12], seqnum: u64)
 
 // The key of suite 2 for a source of 12 bytes.
 #[no_mangle]
-pub extern "C" fn cipher_key_2(base: &[u32; 8], source: &[u8; 12], seqnum: u64) -> Key
+pub extern "C" fn cipher_key_2(base: &[u32; 8], source: &[u8; 12], seqnum: u64) -> CheckKey
     ensures { λ r. ⌜ r .check ≡ keyFrom (now (base .entry)) MagmaNull (now (source .entry)) seqnum 1 ⌝ }
 {
     let subkeys = modes::subkeys_of(base);
-    Key {
+    CheckKey {
         check: derivation::derived_key(
             base,
             subkeys,

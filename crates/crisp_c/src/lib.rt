@@ -1,14 +1,15 @@
 // The gateway and the sender for C: five functions over the proved ones, with the same contracts. include/crisp.h declares and documents them.
 ghost use mathlib.Core.Path.{_≡_};
-ghost use Rattle.gateway.specs.Install.{installed, removed};
-ghost use Rattle.gateway.specs.Listing.{listed};
+ghost use Rattle.format.specs.KeyData.{handedIn};
+ghost use Rattle.entries.specs.Install.{installed, removed};
+ghost use Rattle.listing.specs.Listing.{listed};
 ghost use Rattle.gateway.specs.Receive.{received};
 ghost use Rattle.sender.specs.Protect.{Protects};
-use gateway::TABLE;
-use message::answer::Answer;
+use answers::Answer;
 use sender::Sender;
+use slots::layout::TABLE;
 
-// As `gateway::install`.
+// As `entries::install`.
 #[no_mangle]
 pub extern "C" fn crisp_install(
     table: &mut [u8; TABLE],
@@ -19,19 +20,19 @@ pub extern "C" fn crisp_install(
     key: &[u8],
     size: u64,
 ) -> Answer
-    ensures { λ r. ⌜ r ≡ installed (now (table .entry)) flag (now (keyid .entry)) (now (source .entry)) suite (now (key .entry)) size .answer ⌝ }
-    ensures { λ r. ⌜ now (table .exit) ≡ installed (now (table .entry)) flag (now (keyid .entry)) (now (source .entry)) suite (now (key .entry)) size .table ⌝ }
+    ensures { λ r. ⌜ r ≡ installed (now (table .entry)) (handedIn flag (now (keyid .entry)) (now (source .entry)) suite (now (key .entry))) (record { size = size }) .answer ⌝ }
+    ensures { λ r. ⌜ now (table .exit) ≡ installed (now (table .entry)) (handedIn flag (now (keyid .entry)) (now (source .entry)) suite (now (key .entry))) (record { size = size }) .table ⌝ }
 {
-    gateway::install(table, flag, keyid, source, suite, key, size)
+    entries::install(table, flag, keyid, source, suite, key, size)
 }
 
-// As `gateway::remove`.
+// As `entries::remove`.
 #[no_mangle]
 pub extern "C" fn crisp_remove(table: &mut [u8; TABLE], slot: usize) -> Answer
     ensures { λ r. ⌜ r ≡ removed (now (table .entry)) slot .answer ⌝ }
     ensures { λ r. ⌜ now (table .exit) ≡ removed (now (table .entry)) slot .table ⌝ }
 {
-    gateway::remove(table, slot)
+    entries::remove(table, slot)
 }
 
 // As `gateway::receive`.
@@ -49,19 +50,21 @@ pub extern "C" fn crisp_receive(
     gateway::receive(table, message, source, out)
 }
 
-// As `gateway::listing`.
+// As `listing::listing`.
 #[no_mangle]
 pub extern "C" fn crisp_listing(table: &[u8; TABLE], slot: usize, out: &mut [u8]) -> Answer
     ensures { λ r. ⌜ r ≡ listed (now (table .entry)) slot (now (out .entry)) .answer ⌝ }
     ensures { λ r. ⌜ now (out .exit) ≡ listed (now (table .entry)) slot (now (out .entry)) .out ⌝ }
 {
-    gateway::listing(table, slot, out)
+    listing::listing(table, slot, out)
 }
 
-// As `sender::protect`: the record is lent, and only its current number moves.
+// As `sender::protect_by_value`, on a record that is lent: only its current number moves.
 #[no_mangle]
 pub extern "C" fn crisp_protect(sender: &mut Sender, payload: &[u8], out: &mut [u8]) -> Answer
     ensures { λ r. ⌜ Protects (now (sender .entry)) (now (payload .entry)) (now (out .entry)) r (now (sender .exit)) (now (out .exit)) ⌝ }
 {
-    sender::protect(sender, payload, out)
+    let done = sender::protect_by_value(*sender, payload, out);
+    sender.current = done.current;
+    done.answer
 }

@@ -3,7 +3,7 @@ ghost use mathlib.Core.List.{reverse};
 ghost use mathlib.Core.Path.{_≡_};
 ghost use Prim.Native.Nat.{_<_};
 ghost use lib.ListN.{length};
-ghost use Rattle.magma.specs.Magma.{pi, entryOf, substituted, turned, swapping, through, encrypted, keyWords};
+ghost use Rattle.magma.specs.Magma.{pi, nibbleFor, substituted, turned, swapping, through, encrypted, keyWords};
 
 // Row r says what becomes of the nibble of value 16^r.
 const PI: [[u8; 16]; 8] = [
@@ -137,7 +137,7 @@ pub fn substitute(rows: &[[u8; 16]; 8], x: u32) -> u32
 // What the row puts for the nibble.
 fn entry(rows: &[[u8; 16]; 8], row: usize, nibble: usize) -> u32
     requires { ⌜ (now rows ≡ pi) × (row < 8) × (nibble < 16) ⌝ }
-    ensures { λ r. ⌜ r ≡ entryOf row nibble ⌝ }
+    ensures { λ r. ⌜ r ≡ nibbleFor row nibble ⌝ }
 {
     octets::wide(rows[row][nibble]) as u32
 }

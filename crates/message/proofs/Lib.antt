@@ -1,12 +1,4 @@
 pub mod Fronts
-pub mod Headers
-pub mod KeyIds
-pub mod Keys
 pub mod Opening
 pub mod Payloads
-pub mod Pieces
-pub mod Room
 pub mod RoundTrip
-pub mod Soundness
-pub mod Suites
-pub mod Written

@@ -8,9 +8,10 @@ use borrow.Author.Tests.{eq-eqb, ne-eqb}
 use lib.ListN.{take, drop}
 use Rattle.octets.specs.Octets.{bigEndian}
 use Rattle.magma.specs.Magma.{keyWords}
-use Rattle.message.specs.Suite.{icvLengthOf}
-use Rattle.message.specs.Sealing.{icvOf, endOf, right}
-use Rattle.message.specs.declared.header.Header.{Header}
+use Rattle.format.specs.Suite.{icvLengthOf}
+use Rattle.message.specs.Sealing.{icvOf, rightUnder}
+use Rattle.format.specs.Header.{endOf}
+use Rattle.format.specs.declared.header.Header.{Header}
 
 -- the number that stands in the message, and the ICV of what stands before it
 pub record Compared (h : Header) (key source m : List ℕ) (carried icv : ℕ) : Type 0 where
@@ -18,10 +19,10 @@ pub record Compared (h : Header) (key source m : List ℕ) (carried icv : ℕ) :
   pub should : icv ≡ icvOf (h .suite) (keyWords key) source (h .seqnum) (take (endOf h m) m)
 
 module _ {h : Header} {key source m : List ℕ} {carried icv : ℕ} (c : Compared h key source m carried icv) where
-  pub same-right : carried ≡ icv → right h key source m ≡ true
-  unfolding right
+  pub same-right : carried ≡ icv → rightUnder h key source m ≡ true
+  unfolding rightUnder
   same-right e = rw (← c .carries, ← c .should, eq-eqb carried icv e)
 
-  pub other-wrong : (carried ≡ icv → ⊥) → right h key source m ≡ false
-  unfolding right
+  pub other-wrong : (carried ≡ icv → ⊥) → rightUnder h key source m ≡ false
+  unfolding rightUnder
   other-wrong d = rw (← c .carries, ← c .should, ne-eqb carried icv d)

@@ -8,12 +8,12 @@ use lib.ListN.{length}
 use Rattle.octets.specs.Octets.{Bytes}
 use Rattle.modes.proofs.Gamma.{counter-length, counter-bytes, counter-twice}
 use Rattle.modes.proofs.Widths.{check-lt}
-use Rattle.message.specs.Derivation.{checkKey}
+use Rattle.derivation.specs.Derivation.{checkKey}
 use Rattle.message.specs.Sealing.{icvOf, enciphered}
-use Rattle.message.specs.Suite.{icvLengthOf}
-use Rattle.message.specs.declared.suite.Suite.{Suite}
-use Rattle.message.specs.declared.suite.Suite.the-variants.{MagmaCtr, MagmaNull}
-use Rattle.message.proofs.Suites.{icv-four}
+use Rattle.format.specs.Suite.{icvLengthOf}
+use Rattle.format.specs.declared.suite.Suite.{Suite}
+use Rattle.format.specs.declared.suite.Suite.the-variants.{MagmaCtr, MagmaNull}
+use Rattle.format.proofs.Suites.{icv-four}
 
 pub enciphered-length : (s : Suite) (base source : List ℕ) (seqNum : ℕ) (payload : List ℕ) → length (enciphered s base source seqNum payload) ≡ length payload
 unfolding enciphered

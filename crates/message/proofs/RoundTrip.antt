@@ -11,43 +11,44 @@ use lib.Seq.{take-at, drop-at}
 use Rattle.octets.specs.Octets.{Bytes, bytesOf}
 use Rattle.octets.proofs.BigEndian.{length-bytes, number-bytes}
 use Rattle.magma.specs.Magma.{keyWords}
-use Rattle.message.specs.KeyId.{lengthOf}
-use Rattle.message.specs.Suite.{icvLengthOf}
-use Rattle.message.specs.Header.{readOf, headerBytes}
-use Rattle.message.specs.Sealing.{icvOf, enciphered, frontOf, sealed, right, payloadLength, payloadIn, opened}
-use Rattle.message.specs.declared.header.Parsed.the-variants.{Read}
-use Rattle.message.specs.declared.suite.Suite.{Suite}
+use Rattle.format.specs.KeyId.{lengthOf}
+use Rattle.format.specs.Suite.{icvLengthOf}
+use Rattle.format.specs.KeyData.{KeyData}
+use Rattle.format.specs.Header.{readOf, headerBytes, payloadLength, payloadIn}
+use Rattle.message.specs.Sealing.{icvOf, enciphered, frontOf, sealed, right, opened, openedUnder}
+use Rattle.format.specs.declared.header.Parsed.the-variants.{Read}
+use Rattle.format.specs.declared.suite.Suite.{Suite}
 use Rattle.message.proofs.Fronts.{front-length, front-bytes}
-use Rattle.message.proofs.KeyIds.{length-anywhere}
+use Rattle.format.proofs.KeyIds.{length-anywhere}
 use Rattle.message.proofs.Opening.{Compared, same-right}
 use Rattle.message.proofs.Payloads.{enciphered-length, enciphered-twice, icv-lt}
-use Rattle.message.proofs.Written.{Writable, headerFor, header-length, read-written}
+use Rattle.format.proofs.Written.{Writable, headerFor, header-length, read-written}
 
-module _ (s : Suite) (key : List ℕ) (flag : ℕ) (keyId source : List ℕ) (seqNum : ℕ) (payload : List ℕ) where
+module _ (s : Suite) (k : KeyData) (seqNum : ℕ) (payload : List ℕ) where
   abbrev message : List ℕ
-  message = sealed s key flag keyId source seqNum payload
+  message = sealed s k seqNum payload
 
   -- header, payload as it is sent, and ICV
   abbrev sent : List ℕ
-  sent = enciphered s (keyWords key) source seqNum payload
+  sent = enciphered s (keyWords (k .key)) (k .source) seqNum payload
 
   abbrev front : List ℕ
-  front = frontOf s key flag keyId source seqNum payload
+  front = frontOf s k seqNum payload
 
   abbrev icv : ℕ
-  icv = icvOf s (keyWords key) source seqNum front
+  icv = icvOf s (keyWords (k .key)) (k .source) seqNum front
 
-  pub sealed-length : length (sealed s key flag keyId source seqNum payload) ≡ 9 + length keyId + length payload + icvLengthOf s
+  pub sealed-length : length (sealed s k seqNum payload) ≡ 9 + length (k .keyId) + length payload + icvLengthOf s
   unfolding sealed
-  sealed-length = rw (length-append, length-bytes, front-length s key flag keyId source seqNum payload)
+  sealed-length = rw (length-append, length-bytes, front-length s k seqNum payload)
 
-  in-parts : message ≡ headerBytes flag s keyId seqNum ++ (sent ++ bytesOf (icvLengthOf s) icv)
+  in-parts : message ≡ headerBytes (k .flag) s (k .keyId) seqNum ++ (sent ++ bytesOf (icvLengthOf s) icv)
   unfolding sealed frontOf
-  in-parts = append-assoc (headerBytes flag s keyId seqNum) sent (bytesOf (icvLengthOf s) icv)
+  in-parts = append-assoc (headerBytes (k .flag) s (k .keyId) seqNum) sent (bytesOf (icvLengthOf s) icv)
 
   -- where the ICV begins
   icv-place : length front ≡ length message - icvLengthOf s
-  icv-place = omega (arith, sealed-length, front-length s key flag keyId source seqNum payload)
+  icv-place = omega (arith, sealed-length, front-length s k seqNum payload)
 
   front-there : take (length message - icvLengthOf s) message ≡ front
   unfolding sealed
@@ -57,35 +58,35 @@ module _ (s : Suite) (key : List ℕ) (flag : ℕ) (keyId source : List ℕ) (se
   unfolding sealed
   icv-there = drop-at front (bytesOf (icvLengthOf s) icv) (length message - icvLengthOf s) icv-place
 
-  module _ (w : Writable flag keyId seqNum) (short : 9 + length keyId + length payload + icvLengthOf s ≤ 2048) where
-    pub sealed-reads : readOf (sealed s key flag keyId source seqNum payload) ≡ Read (headerFor flag s keyId seqNum)
+  module _ (w : Writable (k .flag) (k .keyId) seqNum) (short : 9 + length (k .keyId) + length payload + icvLengthOf s ≤ 2048) where
+    pub sealed-reads : readOf (sealed s k seqNum payload) ≡ Read (headerFor (k .flag) s (k .keyId) seqNum)
     sealed-reads =
         let rest : length (sent ++ bytesOf (icvLengthOf s) icv) ≡ length payload + icvLengthOf s =
-        rw (length-append, length-bytes, enciphered-length s (keyWords key) source seqNum payload) in
-        ap readOf in-parts ∙ read-written flag s keyId seqNum (sent ++ bytesOf (icvLengthOf s) icv) w (omega arith) (omega arith)
+        rw (length-append, length-bytes, enciphered-length s (keyWords (k .key)) (k .source) seqNum payload) in
+        ap readOf in-parts ∙ read-written (k .flag) s (k .keyId) seqNum (sent ++ bytesOf (icvLengthOf s) icv) w (omega arith) (omega arith)
 
-    pub sealed-right : Bytes payload → right (headerFor flag s keyId seqNum) key source (sealed s key flag keyId source seqNum payload) ≡ true
+    pub sealed-right : Bytes payload → right (headerFor (k .flag) s (k .keyId) seqNum) k (sealed s k seqNum payload) ≡ true
     sealed-right bytes =
-        let small = icv-lt s (keyWords key) source seqNum front (front-bytes s key flag keyId source seqNum payload (w .keyid-bytes) bytes) in
-        let c : Compared (headerFor flag s keyId seqNum) key source message icv icv = record {
+        let small = icv-lt s (keyWords (k .key)) (k .source) seqNum front (front-bytes s k seqNum payload (w .keyid-bytes) bytes) in
+        let c : Compared (headerFor (k .flag) s (k .keyId) seqNum) (k .key) (k .source) message icv icv = record {
           carries = rw icv-there (sym (number-bytes (icvLengthOf s) icv ∙ mod-eq-of-lt small));
           should = rw front-there;
         } in
         same-right c refl
 
     -- where the payload begins
-    payload-place : 9 + lengthOf (headerFor flag s keyId seqNum .keyid) ≡ 9 + length keyId
-    payload-place = omega (arith, w .keyid-length, length-anywhere (getD keyId 0 0) 3)
+    payload-place : 9 + lengthOf (headerFor (k .flag) s (k .keyId) seqNum .keyid) ≡ 9 + length (k .keyId)
+    payload-place = omega (arith, w .keyid-length, length-anywhere (getD (k .keyId) 0 0) 3)
 
-    pub sealed-payload-length : payloadLength (headerFor flag s keyId seqNum) (sealed s key flag keyId source seqNum payload) ≡ length payload
+    pub sealed-payload-length : payloadLength (headerFor (k .flag) s (k .keyId) seqNum) (sealed s k seqNum payload) ≡ length payload
     sealed-payload-length = omega (arith, sealed-length, payload-place)
 
-    payload-there : payloadIn (headerFor flag s keyId seqNum) message ≡ sent
+    payload-there : payloadIn (headerFor (k .flag) s (k .keyId) seqNum) message ≡ sent
     payload-there =
         rw (sealed-payload-length, payload-place, in-parts)
-        (ap (take (length payload)) (drop-at (headerBytes flag s keyId seqNum) (sent ++ bytesOf (icvLengthOf s) icv) (9 + length keyId) (header-length flag s keyId seqNum))
-        ∙ take-at sent (bytesOf (icvLengthOf s) icv) (length payload) (enciphered-length s (keyWords key) source seqNum payload))
+        (ap (take (length payload)) (drop-at (headerBytes (k .flag) s (k .keyId) seqNum) (sent ++ bytesOf (icvLengthOf s) icv) (9 + length (k .keyId)) (header-length (k .flag) s (k .keyId) seqNum))
+        ∙ take-at sent (bytesOf (icvLengthOf s) icv) (length payload) (enciphered-length s (keyWords (k .key)) (k .source) seqNum payload))
 
-    pub sealed-opens : opened (headerFor flag s keyId seqNum) key source (sealed s key flag keyId source seqNum payload) ≡ payload
-    unfolding opened
-    sealed-opens = rw payload-there (enciphered-twice s (keyWords key) source seqNum payload)
+    pub sealed-opens : opened (headerFor (k .flag) s (k .keyId) seqNum) k (sealed s k seqNum payload) ≡ payload
+    unfolding openedUnder
+    sealed-opens = rw payload-there (enciphered-twice s (keyWords (k .key)) (k .source) seqNum payload)

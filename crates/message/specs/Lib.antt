@@ -1,7 +1,1 @@
-pub mod Answer
-pub mod KeyId
-pub mod Suite
-pub mod KeyData
-pub mod Header
-pub mod Derivation
 pub mod Sealing

@@ -5,14 +5,15 @@ ghost use lib.ListN.{length};
 ghost use Rattle.octets.specs.Octets.{put};
 ghost use Rattle.magma.specs.Magma.{encrypted};
 ghost use Rattle.modes.specs.Modes.{firstSubkey, secondSubkey};
-ghost use Rattle.message.specs.Header.{readOf};
+ghost use Rattle.format.specs.Header.{readOf, fixedBytes};
+ghost use Rattle.format.specs.KeyData.{keyed};
 ghost use Rattle.message.specs.Sealing.{enciphered, icvOf, sealed, openedAs, outputAfter};
-ghost use Rattle.message.specs.declared.header.Parsed.the-variants.{Read};
-ghost use Rattle.message.specs.Suite.{icvLengthOf};
-use crate::derivation;
-use crate::header;
-use crate::header::Header;
-use crate::suite::Suite;
+ghost use Rattle.format.specs.declared.header.Parsed.the-variants.{Read};
+ghost use Rattle.format.specs.Suite.{icvLengthOf};
+use format::header;
+use format::header::Header;
+use format::key_data::Terms;
+use format::suite::Suite;
 use modes::Subkeys;
 
 // What opening a message finds: a payload of so many bytes, or an ICV that is wrong.
@@ -24,22 +25,22 @@ pub enum Opened {
 // The message for a payload is written at the start of the output. Answers its length.
 pub fn seal(
     suite: Suite,
-    key: &[u8],
-    flag: u8,
+    terms: Terms,
     keyid: &[u8],
     source: &[u8],
+    key: &[u8],
     seqnum: u64,
     payload: &[u8],
     out: &mut [u8],
 ) -> usize
-    requires { ⌜ (length (now key) ≡ 32) × (flag < 2) × (length (now source) ≤ 32) × (seqnum < 2 ^ 48) × (9 + length (now keyid) + length (now payload) + icvLengthOf suite ≤ length (now out)) × (length (now payload) ≤ 2 ^ 35) ⌝ }
-    ensures { λ r. ⌜ r ≡ length (sealed suite (now (key .entry)) flag (now (keyid .entry)) (now (source .entry)) seqnum (now (payload .entry))) ⌝ }
-    ensures { λ r. ⌜ now (out .exit) ≡ put (now (out .entry)) 0 (sealed suite (now (key .entry)) flag (now (keyid .entry)) (now (source .entry)) seqnum (now (payload .entry))) ⌝ }
+    requires { ⌜ (length (now key) ≡ 32) × (terms .flag < 2) × (length (now source) ≤ 32) × (seqnum < 2 ^ 48) × (fixedBytes + length (now keyid) + length (now payload) + icvLengthOf suite ≤ length (now out)) × (length (now payload) ≤ 2 ^ 35) ⌝ }
+    ensures { λ r. ⌜ r ≡ length (sealed suite (keyed terms (now (keyid .entry)) (now (source .entry)) (now (key .entry))) seqnum (now (payload .entry))) ⌝ }
+    ensures { λ r. ⌜ now (out .exit) ≡ put (now (out .entry)) 0 (sealed suite (keyed terms (now (keyid .entry)) (now (source .entry)) (now (key .entry))) seqnum (now (payload .entry))) ⌝ }
 {
-    let base = magma::key_words(key);
+    let base = modes::key_words(key);
     let subkeys = modes::subkeys_of(&base);
-    header::write_header(flag, suite, keyid, seqnum, out);
-    let start = 9 + keyid.len();
+    header::write_header(terms.flag, suite, keyid, seqnum, out);
+    let start = header::FIXED + keyid.len();
     let end = start + payload.len();
     encipher(&base, subkeys, suite, source, seqnum, payload, out, start);
     let icv = icv(&base, subkeys, suite, source, seqnum, &out[..end]);
@@ -53,11 +54,11 @@ pub fn open(header: Header, key: &[u8], source: &[u8], message: &[u8], out: &mut
     ensures { λ r. ⌜ r ≡ openedAs header (now (key .entry)) (now (source .entry)) (now (message .entry)) ⌝ }
     ensures { λ r. ⌜ now (out .exit) ≡ outputAfter header (now (key .entry)) (now (source .entry)) (now (message .entry)) (now (out .entry)) ⌝ }
 {
-    let base = magma::key_words(key);
+    let base = modes::key_words(key);
     let subkeys = modes::subkeys_of(&base);
     let suite = header.suite;
     let keyid = header.keyid;
-    let start = 9 + keyid.length();
+    let start = header::FIXED + keyid.length();
     let end = message.len() - suite.icv_length();
     let icv = icv(
         &base,

@@ -1,7 +1,7 @@
--- Tests: two at once, what both say, and both from each; and one that cannot be true.
+-- Tests: two at once, what both say, and both from each; one that cannot be true; and what holds of either choice.
 -- Assumes nothing.
 use mathlib.Core.Path.{_≡_, refl}
-use mathlib.Core.Bool.{Bool, true, false, _&&_}
+use mathlib.Core.Bool.{Bool, true, false, cond, _&&_}
 
 pub and-left : (a b : Bool) → (a && b) ≡ true → a ≡ true
 and-left true b e = refl
@@ -18,3 +18,7 @@ and-both false b p q = p
 pub refuted : (b : Bool) → (b ≡ true → ⊥) → false ≡ b
 refuted true bad = absurd (bad refl)
 refuted false bad = refl
+
+pub either : {A : Type 0} (P : A → Type 0) (b : Bool) (x y : A) → (b ≡ true → P x) → (b ≡ false → P y) → P (cond b x y)
+either P true x y p q = p refl
+either P false x y p q = q refl

@@ -7,7 +7,7 @@ use Prim.Native.Nat.{ℕ, zero, suc, _+_, _-_, _≤_, _<_}
 use native.Mathlib.Nat.{add-assoc}
 use native.Mathlib.Omega.{arith}
 use lib.ListN.{length, getD, take, drop, length-append, length-drop, take-append-drop, List·getD-append}
-use lib.Seq.{length-take-le, getD-append-add, getD-take, getD-drop, ext-getD, take-add, take-take, drop-drop, drop-append-le}
+use lib.Seq.{length-take-le, getD-append-add, getD-take, getD-drop, ext-getD, take-add, take-take, drop-drop, drop-append-le, take-at, drop-at}
 use Rattle.octets.specs.Octets.{bigEndian, part, put}
 use Rattle.octets.proofs.Places.{length-put}
 
@@ -95,3 +95,9 @@ put-within l at m b new h k =
     ∙ drop-append-le (b + length new) (part at m l) (drop m (drop at l)) (rw long k)
     ∙ ap (λ (u : List ℕ). drop (b + length new) (part at m l) ++ u) (drop-drop m at l) in
     rw (first, last, whole) (simp append-assoc)
+
+-- the second of several stretches
+pub second : (a b c d e : List ℕ) (m n : ℕ) → length a ≡ m → length b ≡ n → part m n (a ++ b ++ c ++ d ++ e) ≡ b
+second a b c d e m n p q =
+    let grouped : a ++ b ++ c ++ d ++ e ≡ a ++ (b ++ (c ++ (d ++ e))) = simp append-assoc in
+    ap (part m n) grouped ∙ ap (take n) (drop-at a (b ++ (c ++ (d ++ e))) m p) ∙ take-at b (c ++ (d ++ e)) n q

@@ -2,6 +2,7 @@
 // are printed.
 use libc::STDIN_FILENO;
 use libc::STDOUT_FILENO;
+use slots::layout::TABLE;
 
 const FLAG: u8 = 1;
 
@@ -17,7 +18,7 @@ const OUTPUT: usize = 2048;
 
 fn main() {
     let source = appendix::SOURCE;
-    let mut table = [0u8; gateway::TABLE];
+    let mut table = [0u8; TABLE];
     install(&mut table, &source);
     let mut message = [0u8; ROOM];
     let length = io::read_full(STDIN_FILENO, &mut message);
@@ -30,21 +31,21 @@ fn main() {
 }
 
 // Appendix A.2's key data is installed, for its identifier.
-fn install(table: &mut [u8; gateway::TABLE], source: &[u8]) {
+fn install(table: &mut [u8; TABLE], source: &[u8]) {
     let key = appendix::KEY;
-    gateway::install(table, FLAG, b"\x30", source, SUITE, &key, SIZE);
+    entries::install(table, FLAG, b"\x30", source, SUITE, &key, SIZE);
 }
 
 // The reply to a message that came with an identifier.
-fn receive(table: &mut [u8; gateway::TABLE], message: &[u8], source: &[u8]) -> u64 {
+fn receive(table: &mut [u8; TABLE], message: &[u8], source: &[u8]) -> u64 {
     let mut payload = [0u8; OUTPUT];
     let answer = gateway::receive(table, message, source, &mut payload);
     answer.reply
 }
 
 // The entry's lines are printed, from a buffer that is lent for them.
-fn show(table: &[u8; gateway::TABLE], lines: &mut [u8]) {
-    let answer = gateway::listing(table, 0, lines);
+fn show(table: &[u8; TABLE], lines: &mut [u8]) {
+    let answer = listing::listing(table, 0, lines);
     let length = answer.length;
     io::write_all(STDOUT_FILENO, &lines[..length]);
 }

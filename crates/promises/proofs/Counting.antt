@@ -8,48 +8,48 @@ use native.Mathlib.Omega.{arith}
 use borrow.Author.Tests.{ltb-false}
 use lib.Dec.{eqb, ltb}
 use lib.ListN.{length}
-use Rattle.window.specs.Window.{floorAt, floorOf, marked, judge, verdictOf}
-use Rattle.window.specs.Entry.{Entry, freshEntry, taken}
+use Rattle.window.specs.Window.{floorAt, floorOf, marked, judge, verdictOf, Frame, soundFrame}
+use Rattle.window.specs.Entry.{Entry, freshEntry, taken, longestPayload}
 use Rattle.window.specs.declared.Verdict.the-variants.{Admissible}
 use Rattle.window.proofs.Accept.{Takes, accept-marked, accept-rises}
-use Rattle.window.proofs.Entries.{Whole, fresh-whole, taken-whole}
+use Rattle.window.proofs.Entries.{UndamagedEntry, fresh-entry-undamaged, taken-undamaged}
 use Rattle.window.proofs.Undamaged.{undamaged-facts, takes, fresh-unmarked}
 use Rattle.promises.specs.History.{Message, numbers, highestOf, isIn, different, total}
 
-pub record Agrees (size : ℕ) (e : Entry) (past : List Message) : Type 0 where
-  pub framed : e .window .frame ≡ record { size = size }
+pub record Agrees (frame : Frame) (e : Entry) (past : List Message) : Type 0 where
+  pub framed : e .window .frame ≡ frame
   pub high : e .window .highest ≡ highestOf (numbers past)
   pub marks : (j : ℕ) → floorOf (e .window) ≤ j → marked (e .window) j ≡ isIn j (numbers past)
   pub once : different (numbers past) ≡ numbers past
   pub number : e .accepted ≡ length past
   pub sum : e .bytes ≡ total past
-  pub whole : Whole e
+  pub undamaged : UndamagedEntry e
 
-pub fresh-agrees : (size : ℕ) → 1 ≤ size → size ≤ 256 → Agrees size (freshEntry (record { size = size })) []
-fresh-agrees size least most = record {
+pub fresh-agrees : (frame : Frame) → soundFrame frame ≡ true → Agrees frame (freshEntry frame) []
+fresh-agrees frame sound = record {
   framed = refl;
   high = refl;
-  marks = λ j h. fresh-unmarked (record { size = size }) j;
+  marks = λ j h. fresh-unmarked frame j;
   once = refl;
   number = refl;
   sum = refl;
-  whole = fresh-whole (record { size = size }) least most;
+  undamaged = fresh-entry-undamaged frame sound;
 }
 
-module _ {size : ℕ} {e : Entry} {past : List Message} (a : Agrees size e past) where
+module _ {frame : Frame} {e : Entry} {past : List Message} (a : Agrees frame e past) where
   -- the window's verdict on a number is what the counted numbers say of it
-  pub verdict-agrees : (n : ℕ) → verdictOf (e .window) n ≡ judge (ltb n (floorAt (record { size = size }) (highestOf (numbers past)))) (isIn n (numbers past))
+  pub verdict-agrees : (n : ℕ) → verdictOf (e .window) n ≡ judge (ltb n (floorAt frame (highestOf (numbers past)))) (isIn n (numbers past))
   verdict-agrees n = by (ltb n (floorOf (e .window))) refl ∙ rw (a .framed, a .high)
     where
       by : (x : Bool) → ltb n (floorOf (e .window)) ≡ x → judge x (marked (e .window) n) ≡ judge x (isIn n (numbers past))
       by true q = refl
       by false q = ap (judge false) (a .marks n (ltb-false n (floorOf (e .window)) q))
 
-  pub taken-agrees : (x : Message) → verdictOf (e .window) (x .number) ≡ Admissible → x .number < 2 ^ 48 → x .payload ≤ 2034
-      → Agrees size (taken e (x .number) (x .payload)) (x ∷ past)
+  pub taken-agrees : (x : Message) → verdictOf (e .window) (x .number) ≡ Admissible → x .number < 2 ^ 48 → x .payload ≤ longestPayload
+      → Agrees frame (taken e (x .number) (x .payload)) (x ∷ past)
   taken-agrees x v small short =
       let n : ℕ = x .number in
-      let t : Takes (e .window) n = takes n (undamaged-facts (e .window) (a .whole .window)) v in
+      let t : Takes (e .window) n = takes n (undamaged-facts (e .window) (a .undamaged .window)) v in
       let new : isIn n (numbers past) ≡ false = sym (a .marks n (t .reached)) ∙ t .unused in record {
         framed = a .framed;
         high = ap (λ (h : ℕ). max h n) (a .high);
@@ -57,5 +57,5 @@ module _ {size : ℕ} {e : Entry} {past : List Message} (a : Agrees size e past)
         once = rw (new, a .once);
         number = omega (arith, a .number);
         sum = ap (λ (y : ℕ). y + x .payload) (a .sum);
-        whole = taken-whole e n (x .payload) (a .whole) v small short;
+        undamaged = taken-undamaged e n (x .payload) (a .undamaged) v small short;
       }

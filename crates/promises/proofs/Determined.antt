@@ -2,16 +2,13 @@
 -- Assumes nothing.
 use mathlib.Core.Path.{_≡_, sym, ap, _∙_}
 use mathlib.Core.List.{List}
-use Prim.Native.Nat.{ℕ, _*_, _/_, _%_, _^_}
-use lib.ListN.{length}
-use lib.Seq.{ext-getD}
-use Rattle.numbers.proofs.FromDigits.{Digits, digit-at}
-use Rattle.message.specs.declared.answer.Answer.{Answer}
-use Rattle.gateway.specs.Install.{Left, installed, removed}
-use Rattle.gateway.specs.Listing.{Listed, listed}
+use Prim.Native.Nat.{ℕ}
+use Rattle.window.specs.Window.{Frame}
+use Rattle.format.specs.KeyData.{KeyData}
+use Rattle.answers.specs.declared.Answer.{Answer}
+use Rattle.entries.specs.Install.{Left, installed, removed}
+use Rattle.listing.specs.Listing.{Listed, listed}
 use Rattle.gateway.specs.Receive.{Received, received}
-use Rattle.window.specs.Window.{View, viewOf}
-use Rattle.window.specs.declared.Window.{Window}
 use Rattle.sender.specs.Protect.{Protects, withNumber}
 use Rattle.sender.specs.declared.Sender.{Sender}
 
@@ -36,9 +33,9 @@ module _ {a b : Answer} {t u : List ℕ} where
   left-determined : {l : Left} → IsLeft l a t → IsLeft l b u → (a ≡ b) × (t ≡ u)
   left-determined p q = (same (p .answers) (q .answers), same (p .leaves) (q .leaves))
 
-  pub install-determined : (table : List ℕ) (flag : ℕ) (keyId source : List ℕ) (cs : ℕ) (key : List ℕ) (size : ℕ)
-      → IsLeft (installed table flag keyId source cs key size) a t → IsLeft (installed table flag keyId source cs key size) b u → (a ≡ b) × (t ≡ u)
-  install-determined table flag keyId source cs key size = left-determined
+  pub install-determined : (table : List ℕ) (k : KeyData) (f : Frame)
+      → IsLeft (installed table k f) a t → IsLeft (installed table k f) b u → (a ≡ b) × (t ≡ u)
+  install-determined table k f = left-determined
 
   pub remove-determined : (table : List ℕ) (i : ℕ) → IsLeft (removed table i) a t → IsLeft (removed table i) b u → (a ≡ b) × (t ≡ u)
   remove-determined table i = left-determined
@@ -60,18 +57,3 @@ module _ {a b : Answer} {t u : List ℕ} where
   by-value-determined s payload out p q =
       let d = protect-determined s payload out p q in
       (d .0, ap (λ (x : Sender). x .current) (d .1), d .2)
-
--- ---- windows
-
--- A window's contracts speak of the number that its four words write; there is one window for it.
-pub record FourWords (w : Window) : Type 0 where
-  pub four : length (w .marks) ≡ 4
-  pub words : Digits 64 (w .marks)
-
-pub window-determined : {v w : Window} → FourWords v → FourWords w → viewOf v ≡ viewOf w → v ≡ w
-window-determined {v} {w} p q e =
-    let marks : v .marks ≡ w .marks =
-    ext-getD 0 (v .marks) (w .marks) (same (p .four) (q .four))
-    (λ j h. sym (digit-at 64 (v .marks) (p .words) j) ∙ ap (λ (x : View). x .marks / 2 ^ (64 * j) % 2 ^ 64) e ∙ digit-at 64 (w .marks) (q .words) j) in
-    ap (λ (m : List ℕ). record { size = v .size; highest = v .highest; marks = m }) marks
-    ∙ ap (λ (x : View). record { size = x .frame .size; highest = x .highest; marks = w .marks }) e

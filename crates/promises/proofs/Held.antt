@@ -3,77 +3,71 @@
 use mathlib.Core.Path.{_≡_, sym, ap, _∙_}
 use mathlib.Core.Bool.{Bool, true, false, true≢false, _&&_, _||_}
 use mathlib.Core.List.{List}
-use Prim.Native.Nat.{ℕ, _≤_, _<_}
+use Prim.Native.Nat.{ℕ, _<_}
 use native.Mathlib.Decide.{ℕ-discrete}
 use native.Mathlib.Omega.{arith}
 use borrow.Author.Tests.{eqb-true, eq-eqb}
 use lib.Dec.{eqb}
 use lib.ListN.{length, getD}
+use Rattle.window.specs.Window.{soundFrame}
 use Rattle.numbers.proofs.Tests.{and-left, and-right, and-both}
 use Rattle.octets.specs.Octets.{same}
 use Rattle.octets.proofs.Same.{same-true}
 use Rattle.window.specs.Entry.{Entry}
-use Rattle.window.proofs.Entries.{Whole}
-use Rattle.message.proofs.Soundness.{Sound}
-use Rattle.gateway.specs.Table.{slotOf, windowOf, entryOf, settled, replaced}
-use Rattle.gateway.specs.Lookup.{matches, leadsTo}
-use Rattle.gateway.specs.declared.lookup.Found.the-variants.{At}
-use Rattle.gateway.proofs.Bounds.{keyid-most}
-use Rattle.gateway.proofs.Firsts.{found, reached, leads-matches}
-use Rattle.gateway.proofs.Fresh.{Parts}
-use Rattle.gateway.proofs.Matching.{same-test, source-fact, source-test, match-facts, match-source, match-test}
-use Rattle.gateway.proofs.Replacing.{length-replaced, slot-own, slot-other}
-use Rattle.gateway.proofs.Settled.{same-parts, settled-keys, settled-entry, settledSlot, length-slot, as-replaced}
-use Rattle.gateway.proofs.Slots.{slot-length}
-use Rattle.promises.specs.History.{KeyData}
-
-abbrev pub SoundData : KeyData → Type 0
-SoundData k = Sound (k .flag) (k .keyId) (k .source) (k .cs) (k .key)
-
-abbrev pub PartsOf : KeyData → List ℕ → Type 0
-PartsOf k s = Parts (k .flag) (k .keyId) (k .source) (k .cs) (k .key) s
+use Rattle.window.proofs.Entries.{UndamagedEntry}
+use Rattle.format.proofs.Soundness.{Sound}
+use Rattle.slots.specs.Table.{slotOf, windowOf, entryOf, settled, replaced, slotLength, slotCount, tableLength}
+use Rattle.lookup.specs.Lookup.{matches, leadsTo}
+use Rattle.lookup.specs.declared.Found.the-variants.{At}
+use Rattle.entries.proofs.Bounds.{keyid-most}
+use Rattle.lookup.proofs.Firsts.{found, reached, leads-matches}
+use Rattle.entries.proofs.Fresh.{Parts, same-parts}
+use Rattle.lookup.proofs.Matching.{same-test, source-fact, source-test, match-facts, match-source, match-test}
+use Rattle.slots.proofs.Replacing.{length-replaced, slot-own, slot-other}
+use Rattle.slots.proofs.Settled.{settled-keys, settled-entry, settledSlot, length-slot, as-replaced}
+use Rattle.slots.proofs.Slots.{slot-length}
+use Rattle.promises.specs.History.{Framed}
 
 -- what install found in order
-pub record Sane (k : KeyData) (i : ℕ) : Type 0 where
-  pub small : i < 16
-  pub sound : SoundData k
-  pub first : getD (k .keyId) 0 0 < 256
-  pub least : 1 ≤ k .size
-  pub most : k .size ≤ 256
+pub record Sane (k : Framed) (i : ℕ) : Type 0 where
+  pub small : i < slotCount
+  pub sound : Sound (k .keys)
+  pub first : getD (k .keys .keyId) 0 0 < 256
+  pub framed : soundFrame (k .frame) ≡ true
 
 -- the key data stands in slot i, and no other slot matches it
-pub record Held (k : KeyData) (i : ℕ) (t : List ℕ) : Type 0 where
-  pub long : length t ≡ 4608
-  pub parts : PartsOf k (slotOf t i)
-  pub alone : (j : ℕ) → j < 16 → (j ≡ i → ⊥) → matches (k .flag) (k .keyId) (k .source) (slotOf t j) ≡ false
+pub record Held (k : Framed) (i : ℕ) (t : List ℕ) : Type 0 where
+  pub long : length t ≡ tableLength
+  pub parts : Parts (k .keys) (slotOf t i)
+  pub alone : (j : ℕ) → j < slotCount → (j ≡ i → ⊥) → matches (k .keys .flag) (k .keys .keyId) (k .keys .source) (slotOf t j) ≡ false
 
 -- ---- names
 
 -- flag, KeyId and, for flag 1, source are those of the key data
-pub record Names (k : KeyData) (flag : ℕ) (keyId source : List ℕ) : Type 0 where
-  pub flag-same : k .flag ≡ flag
-  pub keyid-same : k .keyId ≡ keyId
-  pub source-same : (flag ≡ 0 → ⊥) → k .source ≡ source
+pub record Names (k : Framed) (flag : ℕ) (keyId source : List ℕ) : Type 0 where
+  pub flag-same : k .keys .flag ≡ flag
+  pub keyid-same : k .keys .keyId ≡ keyId
+  pub source-same : (flag ≡ 0 → ⊥) → k .keys .source ≡ source
 
-module _ (k : KeyData) (flag : ℕ) (keyId source : List ℕ) where
+module _ (k : Framed) (flag : ℕ) (keyId source : List ℕ) where
   abbrev named : Bool
-  named = eqb (k .flag) flag && same (k .keyId) keyId && (eqb flag 0 || same (k .source) source)
+  named = eqb (k .keys .flag) flag && same (k .keys .keyId) keyId && (eqb flag 0 || same (k .keys .source) source)
 
   pub names-facts : named ≡ true → Names k flag keyId source
   names-facts h = record {
-    flag-same = eqb-true (k .flag) flag (search (and-left));
-    keyid-same = same-true (k .keyId) keyId (search (and-left, and-right));
-    source-same = source-fact flag (k .source) source (search (and-right));
+    flag-same = eqb-true (k .keys .flag) flag (search (and-left));
+    keyid-same = same-true (k .keys .keyId) keyId (search (and-left, and-right));
+    source-same = source-fact flag (k .keys .source) source (search (and-right));
   }
 
   pub names-test : Names k flag keyId source → named ≡ true
   names-test n =
-      and-both (eqb (k .flag) flag && same (k .keyId) keyId) (eqb flag 0 || same (k .source) source)
-      (and-both (eqb (k .flag) flag) (same (k .keyId) keyId) (eq-eqb (k .flag) flag (n .flag-same)) (same-test (k .keyId) keyId (n .keyid-same)))
-      (source-test flag (k .source) source (n .source-same))
+      and-both (eqb (k .keys .flag) flag && same (k .keys .keyId) keyId) (eqb flag 0 || same (k .keys .source) source)
+      (and-both (eqb (k .keys .flag) flag) (same (k .keys .keyId) keyId) (eq-eqb (k .keys .flag) flag (n .flag-same)) (same-test (k .keys .keyId) keyId (n .keyid-same)))
+      (source-test flag (k .keys .source) source (n .source-same))
 
   -- a slot with the key data matches what names it
-  parts-match : {i : ℕ} {s : List ℕ} → Sane k i → PartsOf k s → Names k flag keyId source → matches flag keyId source s ≡ true
+  parts-match : {i : ℕ} {s : List ℕ} → Sane k i → Parts (k .keys) s → Names k flag keyId source → matches flag keyId source s ≡ true
   parts-match {i} {s} v p n =
       match-test flag keyId source s
       (record {
@@ -86,7 +80,7 @@ module _ (k : KeyData) (flag : ℕ) (keyId source : List ℕ) where
       (λ other. p .source-is ∙ n .source-same other)
 
   -- and names it where it matches
-  pub match-names : {s : List ℕ} → PartsOf k s → matches flag keyId source s ≡ true → Names k flag keyId source
+  pub match-names : {s : List ℕ} → Parts (k .keys) s → matches flag keyId source s ≡ true → Names k flag keyId source
   match-names {s} p h =
       let a = match-facts flag keyId source s h in record {
         flag-same = sym (p .flag-is) ∙ a .flag-same;
@@ -95,12 +89,12 @@ module _ (k : KeyData) (flag : ℕ) (keyId source : List ℕ) where
       }
 
   -- a slot that matches what names the key data matches the key data
-  twin : (s : List ℕ) → Names k flag keyId source → matches flag keyId source s ≡ true → matches (k .flag) (k .keyId) (k .source) s ≡ true
+  twin : (s : List ℕ) → Names k flag keyId source → matches flag keyId source s ≡ true → matches (k .keys .flag) (k .keys .keyId) (k .keys .source) s ≡ true
   twin s n h =
       rw (n .flag-same, n .keyid-same)
-      (match-test flag keyId (k .source) s (match-facts flag keyId source s h) (λ other. match-source flag keyId source s h other ∙ sym (n .source-same other)))
+      (match-test flag keyId (k .keys .source) s (match-facts flag keyId source s h) (λ other. match-source flag keyId source s h other ∙ sym (n .source-same other)))
 
-pub names-back : {k other : KeyData} → Names k (other .flag) (other .keyId) (other .source) → Names other (k .flag) (k .keyId) (k .source)
+pub names-back : {k other : Framed} → Names k (other .keys .flag) (other .keys .keyId) (other .keys .source) → Names other (k .keys .flag) (k .keys .keyId) (k .keys .source)
 names-back n = record {
   flag-same = sym (n .flag-same);
   keyid-same = sym (n .keyid-same);
@@ -109,17 +103,17 @@ names-back n = record {
 
 -- ---- where messages lead
 
-module _ {k : KeyData} {i : ℕ} (v : Sane k i) {t : List ℕ} (held : Held k i t) (flag : ℕ) (keyId source : List ℕ) where
+module _ {k : Framed} {i : ℕ} (v : Sane k i) {t : List ℕ} (held : Held k i t) (flag : ℕ) (keyId source : List ℕ) where
   pub leads-here : Names k flag keyId source → leadsTo t flag keyId source ≡ At i
   unfolding leadsTo
   leads-here n =
-      let test = matches flag keyId source in
+      let test : ℕ → Bool = λ j. matches flag keyId source (slotOf t j) in
       let small = v .small in
-      let r = reached test t 16 0 i (omega arith) (omega arith) (parts-match k flag keyId source v (held .parts) n) in
-      let f = found test t 16 0 (r .0) (r .1) in
+      let r = reached test slotCount 0 i (omega arith) (omega arith) (parts-match k flag keyId source v (held .parts) n) in
+      let f = found test slotCount 0 (r .0) (r .1) in
       by (r .0) (r .1) f (ℕ-discrete (r .0) i)
     where
-      by : (j : ℕ) → leadsTo t flag keyId source ≡ At j → (j < 16) × (matches flag keyId source (slotOf t j) ≡ true) → Dec (j ≡ i)
+      by : (j : ℕ) → leadsTo t flag keyId source ≡ At j → (j < slotCount) × (matches flag keyId source (slotOf t j) ≡ true) → Dec (j ≡ i)
           → leadsTo t flag keyId source ≡ At i
       by j p f (yes same) = p ∙ ap At same
       by j p f (no other) = absurd (true≢false (sym (twin k flag keyId source (slotOf t j) n (f .1)) ∙ held .alone j (f .0) other))
@@ -129,7 +123,7 @@ module _ {k : KeyData} {i : ℕ} (v : Sane k i) {t : List ℕ} (held : Held k i 
 
 -- ---- writes
 
-module _ {k : KeyData} {i : ℕ} (v : Sane k i) {t : List ℕ} (held : Held k i t) where
+module _ {k : Framed} {i : ℕ} (v : Sane k i) {t : List ℕ} (held : Held k i t) where
   -- window and totals, into the slot
   module _ (next : Entry) where
     abbrev slot : List ℕ
@@ -156,21 +150,21 @@ module _ {k : KeyData} {i : ℕ} (v : Sane k i) {t : List ℕ} (held : Held k i 
           alone = λ j l other. rw (as-replaced t i next long small, slot-other t i slot long small n j l other) (held .alone j l other);
         }
 
-    pub entry-settled : Whole next → windowOf (slotOf t i) .frame ≡ next .window .frame → entryOf (slotOf (settled t i next) i) ≡ next
-    entry-settled whole frame = ap entryOf own ∙ settled-entry (slotOf t i) next (slot-length t i (held .long) (v .small)) whole frame
+    pub entry-settled : UndamagedEntry next → windowOf (slotOf t i) .frame ≡ next .window .frame → entryOf (slotOf (settled t i next) i) ≡ next
+    entry-settled unharmed frame = ap entryOf own ∙ settled-entry (slotOf t i) next (slot-length t i (held .long) (v .small)) unharmed frame
 
   -- anything that does not match, into another slot
-  module _ (j : ℕ) (small : j < 16) (other : j ≡ i → ⊥) (s : List ℕ) (n : length s ≡ 288) where
+  module _ (j : ℕ) (small : j < slotCount) (other : j ≡ i → ⊥) (s : List ℕ) (n : length s ≡ slotLength) where
     pub slot-beside : slotOf (replaced t j s) i ≡ slotOf t i
     slot-beside = slot-other t j s (held .long) small n i (v .small) (λ e. other (sym e))
 
-    pub held-beside : matches (k .flag) (k .keyId) (k .source) s ≡ false → Held k i (replaced t j s)
+    pub held-beside : matches (k .keys .flag) (k .keys .keyId) (k .keys .source) s ≡ false → Held k i (replaced t j s)
     held-beside differs = record {
       long = length-replaced t j s (held .long) small n;
       parts = rw slot-beside (held .parts);
       alone = λ x l apart. by x l apart (ℕ-discrete x j);
     }
       where
-        by : (x : ℕ) → x < 16 → (x ≡ i → ⊥) → Dec (x ≡ j) → matches (k .flag) (k .keyId) (k .source) (slotOf (replaced t j s) x) ≡ false
+        by : (x : ℕ) → x < slotCount → (x ≡ i → ⊥) → Dec (x ≡ j) → matches (k .keys .flag) (k .keys .keyId) (k .keys .source) (slotOf (replaced t j s) x) ≡ false
         by x l apart (yes same) = rw (same, slot-own t j s (held .long) small n) differs
         by x l apart (no off) = rw (slot-other t j s (held .long) small n x l off) (held .alone x l apart)

@@ -1,4 +1,3 @@
-pub mod Cascade
 pub mod Counting
 pub mod Determined
 pub mod Held

@@ -4,37 +4,36 @@ use mathlib.Core.Path.{_≡_, refl, sym, ap, _∙_}
 use mathlib.Core.Bool.{Bool, true, false, cond, not, _||_, _&&_}
 use mathlib.Core.List.{List}
 use Prim.Native.Nat.{ℕ, _+_, _-_, _^_}
-use borrow.Author.Tests.{eqb-true}
-use lib.Dec.{eqb, leb, ltb}
+use lib.Dec.{eqb, ltb}
 use lib.ListN.{length}
-use Rattle.window.specs.Window.{floorOf, marked, judge}
+use Rattle.window.specs.Window.{floorOf, marked, judge, Frame, soundFrame}
 use Rattle.octets.specs.Octets.{put}
-use Rattle.message.specs.Answer.{refused}
-use Rattle.message.specs.KeyId.{lengthOf}
-use Rattle.message.specs.KeyData.{known, soundOf}
-use Rattle.message.specs.Suite.{suiteOf, icvLengthOf, numberOf}
-use Rattle.message.specs.Header.{flagIn, versionIn, csIn, keyIdIn, seqNumIn, readOf, readAs}
+use Rattle.answers.specs.Answers.{refused, outputRoom}
+use Rattle.format.specs.KeyId.{lengthOf}
+use Rattle.format.specs.KeyData.{known, soundOf, KeyData}
+use Rattle.format.specs.Suite.{suiteOf, icvLengthOf, numberOf}
+use Rattle.format.specs.Header.{flagIn, versionIn, csIn, keyIdIn, seqNumIn, readOf, readAs, leastMessage, greatestMessage, fixedBytes}
 use Rattle.message.specs.Sealing.{right}
-use Rattle.message.specs.declared.header.Header.{Header}
-use Rattle.message.specs.declared.header.Parsed.the-variants.{Read, BadLength, BadVersion, TooShort}
-use Rattle.message.specs.declared.suite.Numbered.{Numbered}
-use Rattle.message.specs.declared.suite.Numbered.the-variants.{Known, Unknown}
-use Rattle.message.specs.declared.suite.Suite.{Suite}
-use Rattle.message.specs.declared.suite.Suite.the-variants.{MagmaCtr, MagmaNull}
-use Rattle.gateway.specs.Listing.{Listed, listed, listingOf}
-use Rattle.gateway.specs.Install.{Left, installed, removed, unlessTwin, placed, freshSlot}
+use Rattle.format.specs.declared.header.Header.{Header}
+use Rattle.format.specs.declared.header.Parsed.the-variants.{Read, BadLength, BadVersion, TooShort}
+use Rattle.format.specs.declared.suite.Numbered.{Numbered}
+use Rattle.format.specs.declared.suite.Numbered.the-variants.{Known, Unknown}
+use Rattle.listing.specs.Listing.{Listed, listed, listingOf}
+use Rattle.entries.specs.Fresh.{freshSlot}
+use Rattle.entries.specs.Install.{Left, installed, removed, unlessTwin, placed}
 use Rattle.gateway.specs.Receive.{Received, received, parsed, led, arrived, judged, checked, handedOut, kept}
-use Rattle.gateway.specs.Lookup.{leadsTo, firstFree}
-use Rattle.gateway.specs.Record.{undamaged}
-use Rattle.gateway.specs.Table.{slotOf, occupied, csOf, sourceOf, keyOf, windowOf}
-use Rattle.gateway.specs.declared.lookup.Found.{Found}
-use Rattle.gateway.specs.declared.lookup.Found.the-variants.{At, Nothing}
+use Rattle.lookup.specs.Lookup.{leadsTo, firstFree}
+use Rattle.slots.specs.Record.{undamaged}
+use Rattle.slots.specs.Table.{slotOf, occupied, csOf, windowOf, slotCount, keyDataOf}
+use Rattle.lookup.specs.declared.Found.{Found}
+use Rattle.lookup.specs.declared.Found.the-variants.{At, Nothing}
 use Rattle.numbers.proofs.Tests.{and-left}
-use Rattle.message.proofs.Soundness as keys
-use Rattle.sender.specs.Protect.{keyIdOf, soundRecord, Outcome, refusal, sent, longestPayload, numbered, outcomeOf}
+use Rattle.sender.proofs.Records.{record-facts}
+use Rattle.sender.specs.Protect.{keyDataIn, payloadLimit, soundRecord, Outcome, refusal, sent, numbered, outcomeOf}
 use Rattle.sender.specs.declared.Sender.{Sender}
-use Rattle.sender.proofs.Records.{sound-facts}
-use Rattle.promises.specs.Replies.{firstOf, nothing, icvIn, ledTo, slotIn, rightIn, receiveReplies, installReplies, removeReplies, listingReplies, protectReplies}
+use Rattle.format.proofs.Soundness.{sound-facts}
+use Rattle.format.proofs.Suites.{suite-number}
+use Rattle.promises.specs.Replies.{firstOf, isNothing, icvIn, ledTo, slotIn, rightIn, receiveReplies, installReplies, removeReplies, listingReplies, protectReplies}
 
 -- a choice between two, seen through a function or by the opposite test
 pushed : {A B : Type 0} (f : A → B) (b : Bool) (x y : A) → f (cond b x y) ≡ cond b (f x) (f y)
@@ -50,44 +49,34 @@ flipped false x y = refl
 pub remove-reply : (t : List ℕ) (i : ℕ) → removed t i .answer .reply ≡ firstOf (removeReplies t i)
 unfolding removed removeReplies
 remove-reply t i =
-    let b = ltb i 16 && occupied (slotOf t i) in
+    let b = ltb i slotCount && occupied (slotOf t i) in
     pushed (λ (l : Left). l .answer .reply) b _ _ ∙ sym (flipped b 16 0)
 
 module _ (t fresh : List ℕ) where
-  free-reply : (g : Found) → placed t fresh g .answer .reply ≡ cond (nothing g) 15 0
+  free-reply : (g : Found) → placed t fresh g .answer .reply ≡ cond (isNothing g) 15 0
   free-reply (At i) = refl
   free-reply Nothing = refl
 
-  twin-reply : (f : Found) → unlessTwin t fresh f .answer .reply ≡ cond (not (nothing f)) 14 (cond (nothing (firstFree t)) 15 0)
+  twin-reply : (f : Found) → unlessTwin t fresh f .answer .reply ≡ cond (not (isNothing f)) 14 (cond (isNothing (firstFree t)) 15 0)
   twin-reply (At i) = refl
   twin-reply Nothing = free-reply (firstFree t)
 
-pub install-reply : (t : List ℕ) (flag : ℕ) (keyId source : List ℕ) (cs : ℕ) (key : List ℕ) (size : ℕ)
-    → installed t flag keyId source cs key size .answer .reply ≡ firstOf (installReplies t flag keyId source cs key size)
+pub install-reply : (t : List ℕ) (k : KeyData) (f : Frame)
+    → installed t k f .answer .reply ≡ firstOf (installReplies t k f)
 unfolding installed installReplies
-install-reply t flag keyId source cs key size =
-    let b = soundOf flag keyId source cs key && leb 1 size && leb size 256 in
+install-reply t k f =
+    let b = soundOf k && soundFrame f in
     pushed (λ (l : Left). l .answer .reply) b _ _
-    ∙ rw (twin-reply t (freshSlot flag keyId source cs key size) (leadsTo t flag keyId source)) (sym (flipped b 13 _))
+    ∙ rw (twin-reply t (freshSlot k f) (leadsTo t (k .flag) (k .keyId) (k .source))) (sym (flipped b 13 _))
 
 -- ---- receive
 
--- a number's suite has that number
-suite-number : (cs : ℕ) (s : Suite) → Known s ≡ suiteOf cs → numberOf s ≡ cs
-unfolding suiteOf
-suite-number cs s = by (eqb cs 1) refl (eqb cs 2) refl
-  where
-    by : (a : Bool) → eqb cs 1 ≡ a → (b : Bool) → eqb cs 2 ≡ b → Known s ≡ cond a (Known MagmaCtr) (cond b (Known MagmaNull) Unknown) → numberOf s ≡ cs
-    by true p b q e = let f : s ≡ MagmaCtr = cc in ap numberOf f ∙ sym (eqb-true cs 1 p)
-    by false p true q e = let f : s ≡ MagmaNull = cc in ap numberOf f ∙ sym (eqb-true cs 2 q)
-    by false p false q e = cc
-
 -- what the slot says: replies 7 to 11
 module _ (t : List ℕ) (i : ℕ) (h : Header) (m out : List ℕ) where
-  icv-reply : checked t i h m out .answer .reply ≡ cond (not (right h (keyOf (slotOf t i)) (sourceOf (slotOf t i)) m)) 11 0
+  icv-reply : checked t i h m out .answer .reply ≡ cond (not (right h (keyDataOf (slotOf t i)) m)) 11 0
   unfolding checked handedOut
   icv-reply =
-      let r = right h (keyOf (slotOf t i)) (sourceOf (slotOf t i)) m in
+      let r = right h (keyDataOf (slotOf t i)) m in
       pushed (λ (l : Received). l .answer .reply) r _ _ ∙ sym (flipped r 11 0)
 
   by-tests : (u c b k : Bool)
@@ -104,7 +93,7 @@ module _ (t : List ℕ) (i : ℕ) (h : Header) (m out : List ℕ) where
       (cond (not (eqb (csOf (slotOf t i)) (numberOf (h .suite)))) 8
       (cond (ltb (h .seqnum) (floorOf (windowOf (slotOf t i)))) 9
       (cond (marked (windowOf (slotOf t i)) (h .seqnum)) 10
-      (cond (not (right h (keyOf (slotOf t i)) (sourceOf (slotOf t i)) m)) 11 0))))
+      (cond (not (right h (keyDataOf (slotOf t i)) m)) 11 0))))
   unfolding arrived
   slot-reply =
       let s = slotOf t i in
@@ -115,7 +104,7 @@ module _ (t m source out : List ℕ) where
   abbrev onward : Found → ℕ
   onward f =
       let s = slotIn t f in
-      cond (nothing f) 6
+      cond (isNothing f) 6
       (cond (not (undamaged s)) 7
       (cond (not (eqb (csOf s) (csIn m))) 8
       (cond (ltb (seqNumIn m) (floorOf (windowOf s))) 9
@@ -128,11 +117,11 @@ module _ (t m source out : List ℕ) where
 
   header-reply : (b v : Bool) (n : Numbered) → readOf m ≡ cond b BadLength (cond v (readAs n m) BadVersion) → n ≡ suiteOf (csIn m)
       → parsed (cond b BadLength (cond v (readAs n m) BadVersion)) t m source out .answer .reply
-      ≡ cond b 2 (cond (not v) 3 (cond (not (known n)) 4 (cond (ltb (length m) (9 + lengthOf (keyIdIn m) + icvIn n)) 5 (onward (ledTo t m source)))))
+      ≡ cond b 2 (cond (not v) 3 (cond (not (known n)) 4 (cond (ltb (length m) (fixedBytes + lengthOf (keyIdIn m) + icvIn n)) 5 (onward (ledTo t m source)))))
   header-reply true v n e q = refl
   header-reply false false n e q = refl
   header-reply false true Unknown e q = refl
-  header-reply false true (Known s) e q = by (ltb (length m) (9 + lengthOf (keyIdIn m) + icvLengthOf s)) e
+  header-reply false true (Known s) e q = by (ltb (length m) (fixedBytes + lengthOf (keyIdIn m) + icvLengthOf s)) e
     where
       h : Header
       h = record { flag = flagIn m; suite = s; keyid = keyIdIn m; seqnum = seqNumIn m }
@@ -144,14 +133,14 @@ module _ (t m source out : List ℕ) where
   pub receive-reply : received t m source out .answer .reply ≡ firstOf (receiveReplies t m source out)
   unfolding received receiveReplies readOf
   receive-reply =
-      pushed (λ (l : Received). l .answer .reply) (ltb (length out) 2048) _ _
-      ∙ ap (cond (ltb (length out) 2048) 1) (header-reply (ltb (length m) 14 || ltb 2048 (length m)) (eqb (versionIn m) 0) (suiteOf (csIn m)) refl refl)
+      pushed (λ (l : Received). l .answer .reply) (ltb (length out) outputRoom) _ _
+      ∙ ap (cond (ltb (length out) outputRoom) 1) (header-reply (ltb (length m) leastMessage || ltb greatestMessage (length m)) (eqb (versionIn m) 0) (suiteOf (csIn m)) refl refl)
 
 -- ---- listing
 
 pub listing-reply : (t : List ℕ) (i : ℕ) (out : List ℕ) → listed t i out .answer .reply ≡ firstOf (listingReplies t i out)
 unfolding listed listingReplies
-listing-reply t i out = by (ltb (length out) 2048) (ltb i 16 && occupied (slotOf t i)) (undamaged (slotOf t i))
+listing-reply t i out = by (ltb (length out) outputRoom) (ltb i slotCount && occupied (slotOf t i)) (undamaged (slotOf t i))
   where
     refusal : ℕ → Listed
     refusal n = record { answer = refused n; out = out }
@@ -159,10 +148,10 @@ listing-reply t i out = by (ltb (length out) 2048) (ltb i 16 && occupied (slotOf
     done : Listed
     done = record { answer = record { reply = 0; length = length (listingOf i (slotOf t i)); slot = i; seqnum = 0 }; out = put out 0 (listingOf i (slotOf t i)) }
 
-    by : (short held whole : Bool) → cond short (refusal 1) (cond held (cond whole done (refusal 7)) (refusal 16)) .answer .reply
-        ≡ cond short 1 (cond (not held) 16 (cond (not whole) 7 0))
-    by true held whole = refl
-    by false false whole = refl
+    by : (short held sound : Bool) → cond short (refusal 1) (cond held (cond sound done (refusal 7)) (refusal 16)) .answer .reply
+        ≡ cond short 1 (cond (not held) 16 (cond (not sound) 7 0))
+    by true held sound = refl
+    by false false sound = refl
     by false true false = refl
     by false true true = refl
 
@@ -171,22 +160,22 @@ listing-reply t i out = by (ltb (length out) 2048) (ltb i 16 && occupied (slotOf
 module _ (s : Sender) (payload out : List ℕ) where
   -- sound key data names a suite
   suite-there : soundRecord (s .keys) ≡ true → known (suiteOf (s .keys .suite)) ≡ true
-  suite-there e = keys.sound-facts _ _ _ _ _ (sound-facts (s .keys) e .keys) .suite-known
+  suite-there e = sound-facts (keyDataIn (s .keys)) (record-facts (s .keys) e .keys) .suite-known
 
   by-suite : (n : Numbered) → n ≡ suiteOf (s .keys .suite) → (b : Bool) → (soundRecord (s .keys) && ltb (s .current) (2 ^ 48)) ≡ b
       → cond b (numbered n s payload out) (refusal 7 s out) .answer .reply
-      ≡ cond (not b) 7 (cond (ltb (2048 - (9 + length (keyIdOf (s .keys)) + icvIn n)) (length payload)) 2 (cond (eqb (s .current) (2 ^ 48 - 1)) 12 0))
+      ≡ cond (not b) 7 (cond (ltb (greatestMessage - (fixedBytes + length (keyDataIn (s .keys) .keyId) + icvIn n)) (length payload)) 2 (cond (eqb (s .current) (2 ^ 48 - 1)) 12 0))
   unfolding sent
   by-suite n q false p = refl
   by-suite Unknown q true p =
       let e : _≡_ {A = Bool} false true = ap known q ∙ suite-there (and-left (soundRecord (s .keys)) (ltb (s .current) (2 ^ 48)) p) in
       cc
   by-suite (Known suite) q true p =
-      pushed (λ (o : Outcome). o .answer .reply) (ltb (longestPayload suite (s .keys)) (length payload)) _ _
-      ∙ ap (cond (ltb (longestPayload suite (s .keys)) (length payload)) 2) (pushed (λ (o : Outcome). o .answer .reply) (eqb (s .current) (2 ^ 48 - 1)) _ _)
+      pushed (λ (o : Outcome). o .answer .reply) (ltb (payloadLimit suite (s .keys)) (length payload)) _ _
+      ∙ ap (cond (ltb (payloadLimit suite (s .keys)) (length payload)) 2) (pushed (λ (o : Outcome). o .answer .reply) (eqb (s .current) (2 ^ 48 - 1)) _ _)
 
   pub protect-reply : outcomeOf s payload out .answer .reply ≡ firstOf (protectReplies s payload out)
   unfolding outcomeOf protectReplies
   protect-reply =
-      pushed (λ (o : Outcome). o .answer .reply) (ltb (length out) 2048) _ _
-      ∙ ap (cond (ltb (length out) 2048) 1) (by-suite (suiteOf (s .keys .suite)) refl (soundRecord (s .keys) && ltb (s .current) (2 ^ 48)) refl)
+      pushed (λ (o : Outcome). o .answer .reply) (ltb (length out) outputRoom) _ _
+      ∙ ap (cond (ltb (length out) outputRoom) 1) (by-suite (suiteOf (s .keys .suite)) refl (soundRecord (s .keys) && ltb (s .current) (2 ^ 48)) refl)

@@ -9,58 +9,59 @@ use native.Mathlib.Omega.{arith}
 use lib.Dec.{eqb, ltb}
 use lib.ListN.{length, length-map}
 use Rattle.octets.specs.Octets.{Bytes}
-use Rattle.window.specs.Window.{floorAt}
+use Rattle.window.specs.Window.{floorAt, Frame}
+use Rattle.window.proofs.Undamaged.{frame-most}
 use Rattle.window.specs.Entry.{Entry}
-use Rattle.message.specs.declared.answer.Answer.{Answer}
-use Rattle.message.proofs.Soundness.{sound-facts}
-use Rattle.gateway.specs.Table.{entryOf}
-use Rattle.gateway.specs.Install.{freshSlot, doneAt}
-use Rattle.gateway.proofs.Firsts.{leads-nowhere, free-small}
-use Rattle.gateway.proofs.Fresh.{length-fresh, fresh-parts, fresh-entry, parts-undamaged}
-use Rattle.gateway.proofs.Outcomes.{Refuses, Enters, install-outcome}
-use Rattle.gateway.proofs.Replacing.{length-replaced, slot-own, slot-other}
-use Rattle.promises.specs.History.{KeyData, Call, arrival, install, remove, entered, after, run, Message, Handed, nothing, one, handed, handedBy, numbers, highestOf, isIn, isNew, provided, counts, noted, countedFrom, OfBytes, SpareAll, Accounts}
+use Rattle.answers.specs.declared.Answer.{Answer}
+use Rattle.format.proofs.Soundness.{sound-facts}
+use Rattle.slots.specs.Table.{entryOf, tableLength}
+use Rattle.entries.specs.Fresh.{freshSlot}
+use Rattle.entries.specs.Install.{doneAt}
+use Rattle.lookup.proofs.Firsts.{leads-nowhere, free-small}
+use Rattle.entries.proofs.Fresh.{length-fresh, fresh-parts, fresh-entry, parts-undamaged}
+use Rattle.entries.proofs.Outcomes.{Refuses, Enters, install-outcome}
+use Rattle.slots.proofs.Replacing.{length-replaced, slot-own, slot-other}
+use Rattle.promises.specs.History.{Framed, Call, arrival, install, remove, entered, after, run, Message, Handed, nothing, one, handed, handedBy, numbers, highestOf, isIn, isNew, provided, counts, noted, countedFrom, OfBytes, SpareAll, Accounts}
 use Rattle.promises.proofs.Counting.{Agrees, fresh-agrees}
 use Rattle.promises.proofs.Held.{Sane}
 use Rattle.promises.proofs.Steps.{Stands, step}
 
-module _ (t : List ℕ) (long : length t ≡ 4608) (k : KeyData) (b : Bytes (k .keyId)) where
+module _ (t : List ℕ) (long : length t ≡ tableLength) (k : Framed) (b : Bytes (k .keys .keyId)) where
   abbrev Begins : ℕ → Type 0
   Begins i = Sane k i × Stands k i (entered t k .table) []
 
-  enters : (j : ℕ) → Enters t (k .flag) (k .keyId) (k .source) (k .cs) (k .key) (k .size) j → Begins j
+  enters : (j : ℕ) → Enters t (k .keys) (k .frame) j → Begins j
   enters j n =
       let small = free-small t j (n .free) in
-      let sound = sound-facts (k .flag) (k .keyId) (k .source) (k .cs) (k .key) (n .fair .sound) in
-      let fresh = freshSlot (k .flag) (k .keyId) (k .source) (k .cs) (k .key) (k .size) in
-      let whole = length-fresh sound (b 0) (k .size) in
-      let own = slot-own t j fresh long small whole in
-      let least = n .fair .least in
-      let most = n .fair .most in
-      let entry = fresh-entry sound (b 0) (k .size) (omega arith) in (
-        record { small = small; sound = sound; first = b 0; least = least; most = most },
+      let sound = sound-facts (k .keys) (n .fair .sound) in
+      let fresh = freshSlot (k .keys) (k .frame) in
+      let full = length-fresh sound (b 0) (k .frame) in
+      let own = slot-own t j fresh long small full in
+      let framed = n .fair .framed in
+      let entry = fresh-entry sound (b 0) (k .frame) (omega (arith, frame-most (k .frame) framed)) in (
+        record { small = small; sound = sound; first = b 0; framed = framed },
         rw (n .is)
             (record {
               held = record {
-                long = length-replaced t j fresh long small whole;
-                parts = rw own (fresh-parts sound (b 0) (k .size));
+                long = length-replaced t j fresh long small full;
+                parts = rw own (fresh-parts sound (b 0) (k .frame));
                 alone =
                     λ x l other.
-                    rw (slot-other t j fresh long small whole x l other) (leads-nowhere t x (k .flag) (k .keyId) (k .source) (n .alone) l);
+                    rw (slot-other t j fresh long small full x l other) (leads-nowhere t x (k .keys .flag) (k .keys .keyId) (k .keys .source) (n .alone) l);
               };
               agrees =
-                  subst (λ (x : Entry). Agrees (k .size) x []) (sym (ap entryOf own ∙ entry)) (fresh-agrees (k .size) least most);
+                  subst (λ (x : Entry). Agrees (k .frame) x []) (sym (ap entryOf own ∙ entry)) (fresh-agrees (k .frame) framed);
             }),
       )
 
   pub begins : (i : ℕ) → entered t k .answer ≡ doneAt i → Begins i
-  begins i done = by (install-outcome t (k .flag) (k .keyId) (k .source) (k .cs) (k .key) (k .size))
+  begins i done = by (install-outcome t (k .keys) (k .frame))
     where
-      by : Refuses t (entered t k) ⊎ ((j : ℕ) × Enters t (k .flag) (k .keyId) (k .source) (k .cs) (k .key) (k .size) j) → Begins i
+      by : Refuses t (entered t k) ⊎ ((j : ℕ) × Enters t (k .keys) (k .frame) j) → Begins i
       by (inl r) = absurd (omega (arith, r .some, ap (λ (a : Answer). a .reply) (rw (r .is) at done)))
       by (inr (j, n)) = subst Begins (ap (λ (a : Answer). a .slot) (rw (n .is) at done)) (enters j n)
 
-module _ {k : KeyData} {i : ℕ} (v : Sane k i) where
+module _ {k : Framed} {i : ℕ} (v : Sane k i) where
   pub stands-on : {t : List ℕ} {past : List Message} → Stands k i t past → (cs : List Call) → SpareAll i cs → Stands k i (run t cs) (countedFrom k past cs)
   stands-on now [] s = now
   stands-on now (c ∷ cs) s = stands-on (step v now c (s .0) (s .1) .stands) cs (s .2)
@@ -88,7 +89,7 @@ module _ {k : KeyData} {i : ℕ} (v : Sane k i) where
         bytes = a .sum;
         once = a .once;
         highest = a .high;
-        whole = parts-undamaged (v .sound) (now .held .parts) (a .whole);
+        not-damaged = parts-undamaged (v .sound) (now .held .parts) (a .undamaged);
       }
     where
       exactly : (c : Call) → OfBytes c → handed i t c ≡ counts k past c
@@ -97,9 +98,9 @@ module _ {k : KeyData} {i : ℕ} (v : Sane k i) where
       exactly (remove j) b = refl
 
 -- a counted message's number was not counted before
-pub counted-new : (size : ℕ) (ns : List ℕ) (z : Handed) (y : Message) → provided (isNew size ns) z ≡ one y → isIn (y .number) ns ≡ false
-counted-new size ns nothing y e = cc
-counted-new size ns (one z) y e = by (ltb (z .number) (floorAt (record { size = size }) (highestOf ns))) (isIn (z .number) ns) refl e
+pub counted-new : (frame : Frame) (ns : List ℕ) (z : Handed) (y : Message) → provided (isNew frame ns) z ≡ one y → isIn (y .number) ns ≡ false
+counted-new frame ns nothing y e = cc
+counted-new frame ns (one z) y e = by (ltb (z .number) (floorAt frame (highestOf ns))) (isIn (z .number) ns) refl e
   where
     by : (below used : Bool) → isIn (z .number) ns ≡ used → cond (not below && not used) (one z) nothing ≡ one y → isIn (y .number) ns ≡ false
     by true used q e = cc

@@ -9,56 +9,58 @@ use native.Mathlib.Omega.{arith}
 use borrow.Author.Tests.{eqb-true, eqb-false, eq-eqb, ne-eqb, not-false}
 use lib.Dec.{eqb, ltb, lit≤}
 use lib.ListN.{length, getD, length-replicate}
+use Rattle.answers.specs.Answers.{outputRoom}
 use Rattle.octets.specs.Octets.{Bytes, put}
 use Rattle.window.specs.Window.{floorAt, judge, verdictOf}
 use Rattle.window.specs.Entry.{Entry, taken}
 use Rattle.window.specs.declared.Verdict.{Verdict}
 use Rattle.window.specs.declared.Verdict.the-variants.{Below, Marked, Admissible}
-use Rattle.message.specs.Header.{readOf}
-use Rattle.message.specs.Suite.{numberOf}
-use Rattle.message.specs.Sealing.{right, payloadLength, opened}
-use Rattle.message.specs.declared.header.Header.{Header}
-use Rattle.message.specs.declared.header.Parsed.{Parsed}
-use Rattle.message.specs.declared.header.Parsed.the-variants.{Read, BadLength, BadVersion, BadSuite, TooShort}
-use Rattle.message.proofs.Soundness.{sound-facts}
-use Rattle.message.proofs.Room.{read-room, payload-most, number-small}
-use Rattle.gateway.specs.Table.{slotOf, csOf, sourceOf, keyOf, entryOf, settled, replaced, emptySlot}
-use Rattle.gateway.specs.Lookup.{matches, leadsTo}
-use Rattle.gateway.specs.Record.{undamaged}
-use Rattle.gateway.specs.Install.{freshSlot, removed}
-use Rattle.gateway.specs.Receive.{Received, kept, handedOut, judged, arrived, led, keyIdBytes, parsed, received}
-use Rattle.gateway.specs.declared.lookup.Found.{Found}
-use Rattle.gateway.specs.declared.lookup.Found.the-variants.{At, Nothing}
+use Rattle.format.specs.Header.{readOf, payloadLength, keyIdBytes}
+use Rattle.format.specs.Suite.{numberOf}
+use Rattle.message.specs.Sealing.{right, opened}
+use Rattle.format.specs.declared.header.Header.{Header}
+use Rattle.format.specs.declared.header.Parsed.{Parsed}
+use Rattle.format.specs.declared.header.Parsed.the-variants.{Read, BadLength, BadVersion, BadSuite, TooShort}
+use Rattle.format.proofs.Soundness.{sound-facts}
+use Rattle.format.proofs.Room.{read-room, payload-most, number-small}
+use Rattle.slots.specs.Table.{slotOf, csOf, entryOf, settled, replaced, emptySlot, slotLength, slotCount, occupiedAt, keyDataOf}
+use Rattle.lookup.specs.Lookup.{matches, leadsTo}
+use Rattle.slots.specs.Record.{undamaged}
+use Rattle.entries.specs.Fresh.{freshSlot}
+use Rattle.entries.specs.Install.{removed}
+use Rattle.gateway.specs.Receive.{Received, kept, handedOut, judged, arrived, led, parsed, received}
+use Rattle.lookup.specs.declared.Found.{Found}
+use Rattle.lookup.specs.declared.Found.the-variants.{At, Nothing}
 use Rattle.gateway.proofs.Arrivals.{other-suite, by-verdict, wrong-icv, right-icv}
-use Rattle.gateway.proofs.Firsts.{leads-small, leads-matches, free-small, free-empty}
-use Rattle.gateway.proofs.Fresh.{length-fresh, fresh-parts, parts-undamaged}
-use Rattle.gateway.proofs.Matching.{match-facts, no-match}
-use Rattle.gateway.proofs.Outcomes.{Refuses, Enters, Frees, install-outcome, remove-outcome}
-use Rattle.gateway.proofs.Settled.{same-matches, settled-keys, settledSlot, length-slot, as-replaced}
-use Rattle.gateway.proofs.Slots.{slot-length}
-use Rattle.promises.specs.History.{KeyData, Call, arrival, install, remove, entered, after, Message, Handed, nothing, one, answered, handed, isOf, genuine, numbers, highestOf, isIn, isNew, provided, counts, noted, OfBytes, Spares}
-use Rattle.promises.proofs.Cascade.{of-arrived}
+use Rattle.lookup.proofs.Firsts.{leads-small, leads-matches, free-small, free-empty}
+use Rattle.entries.proofs.Fresh.{Parts, length-fresh, fresh-parts, parts-undamaged}
+use Rattle.lookup.proofs.Matching.{match-facts, no-match, same-matches}
+use Rattle.entries.proofs.Outcomes.{Refuses, Enters, Frees, install-outcome, remove-outcome}
+use Rattle.slots.proofs.Settled.{settled-keys, settledSlot, length-slot, as-replaced}
+use Rattle.slots.proofs.Slots.{slot-length}
+use Rattle.promises.specs.History.{Framed, Call, arrival, install, remove, entered, after, Message, Handed, nothing, one, answered, handed, isOf, genuine, numbers, highestOf, isIn, isNew, provided, counts, noted, OfBytes, Spares}
+use Rattle.gateway.proofs.Cascade.{of-arrived}
 use Rattle.promises.proofs.Counting.{Agrees, verdict-agrees, taken-agrees}
-use Rattle.promises.proofs.Held.{Sane, Held, PartsOf, names-facts, names-test, names-back, match-names, leads-here, leads-named, held-settled, entry-settled, slot-beside, held-beside}
+use Rattle.promises.proofs.Held.{Sane, Held, names-facts, names-test, names-back, match-names, leads-here, leads-named, held-settled, entry-settled, slot-beside, held-beside}
 
 -- the entry in slot i agrees with what was counted
-pub record Stands (k : KeyData) (i : ℕ) (t : List ℕ) (past : List Message) : Type 0 where
+pub record Stands (k : Framed) (i : ℕ) (t : List ℕ) (past : List Message) : Type 0 where
   pub held : Held k i t
-  pub agrees : Agrees (k .size) (entryOf (slotOf t i)) past
+  pub agrees : Agrees (k .frame) (entryOf (slotOf t i)) past
 
-module _ (k : KeyData) (i : ℕ) (t : List ℕ) (past : List Message) where
+module _ (k : Framed) (i : ℕ) (t : List ℕ) (past : List Message) where
   -- of a call: what is handed out at the slot, the table after it, and what is counted
   pub record Does (given : Handed) (next : List ℕ) (x : Handed) : Type 0 where
     pub gives : given ≡ x
     pub stands : Stands k i next (noted past x)
     pub untouched : x ≡ nothing → slotOf next i ≡ slotOf t i
 
-  -- the same of an arrival, and what it writes
-  pub record Leaves (m out : List ℕ) (x : Handed) (r : Received) : Type 0 where
+  -- an arrival meets what is counted: the same of it, and what it writes
+  pub record Meets (m out : List ℕ) (x : Handed) (r : Received) : Type 0 where
     pub does : Does (answered i (r .answer)) (r .table) x
-    pub writes : (y : Message) → x ≡ one y → (h : Header) → readOf m ≡ Read h → r .out ≡ put out 0 (opened h (k .key) (k .source) m)
+    pub writes : (y : Message) → x ≡ one y → (h : Header) → readOf m ≡ Read h → r .out ≡ put out 0 (opened h (k .keys) m)
 
-module _ {k : KeyData} {i : ℕ} (v : Sane k i) {t : List ℕ} {past : List Message} (now : Stands k i t past) where
+module _ {k : Framed} {i : ℕ} (v : Sane k i) {t : List ℕ} {past : List Message} (now : Stands k i t past) where
   abbrev held : Held k i t
   held = now .held
 
@@ -66,14 +68,14 @@ module _ {k : KeyData} {i : ℕ} (v : Sane k i) {t : List ℕ} {past : List Mess
   passing : (given : Handed) (next : List ℕ) → given ≡ nothing → Held k i next → slotOf next i ≡ slotOf t i → Does k i t past given next nothing
   passing given next g h same = record { gives = g; stands = record { held = h; agrees = rw same (now .agrees) }; untouched = λ z. same }
 
-  refusing : (m out : List ℕ) (n : ℕ) → 1 ≤ n → Leaves k i t past m out nothing (kept t out n)
+  refusing : (m out : List ℕ) (n : ℕ) → 1 ≤ n → Meets k i t past m out nothing (kept t out n)
   refusing m out n some = record { does = passing _ t (rw (ne-eqb n 0 (λ z. omega arith))) held refl; writes = λ y e h read. cc }
 
   -- ---- an arrival that leads elsewhere
 
   module _ (h : Header) (m source out : List ℕ) where
     -- handed out at another slot
-    beside : (j : ℕ) → (j ≡ i → ⊥) → leadsTo t (h .flag) (keyIdBytes h m) source ≡ At j → Leaves k i t past m out nothing (handedOut t j h m out)
+    beside : (j : ℕ) → (j ≡ i → ⊥) → leadsTo t (h .flag) (keyIdBytes h m) source ≡ At j → Meets k i t past m out nothing (handedOut t j h m out)
     unfolding handedOut
     beside j other l =
         let long = held .long in
@@ -83,7 +85,7 @@ module _ {k : KeyData} {i : ℕ} (v : Sane k i) {t : List ℕ} {past : List Mess
         let slot = settledSlot t j new long small in
         let n = length-slot t j new long small in
         let keys = settled-keys (slotOf t j) new (slot-length t j long small) (a .keyid-short) (a .source-short) in
-        let differs = same-matches keys (k .flag) (k .keyId) (k .source) ∙ held .alone j small other in
+        let differs = same-matches keys (k .keys .flag) (k .keys .keyId) (k .keys .source) ∙ held .alone j small other in
         record {
           does =
               passing _ (settled t j new) (rw (ne-eqb j i other))
@@ -92,15 +94,15 @@ module _ {k : KeyData} {i : ℕ} (v : Sane k i) {t : List ℕ} {past : List Mess
           writes = λ y e g read. cc;
         }
 
-    elsewhere : (f : Found) → leadsTo t (h .flag) (keyIdBytes h m) source ≡ f → (f ≡ At i → ⊥) → Leaves k i t past m out nothing (led f t h m out)
+    elsewhere : (f : Found) → leadsTo t (h .flag) (keyIdBytes h m) source ≡ f → (f ≡ At i → ⊥) → Meets k i t past m out nothing (led f t h m out)
     elsewhere Nothing l other = refusing m out 6 (lit≤ tt)
     elsewhere (At j) l other =
-        of-arrived (Leaves k i t past m out nothing) t out j h m (beside j (λ same. other (ap At same)) l) (refusing m out)
+        of-arrived (Meets k i t past m out nothing) t out j h m (beside j (λ same. other (ap At same)) l) (refusing m out)
 
   -- ---- an arrival that leads to the slot
 
   abbrev new : ℕ → Bool
-  new = isNew (k .size) (numbers past)
+  new = isNew (k .frame) (numbers past)
 
   module _ (h : Header) (m out : List ℕ) (b : Bytes m) (read : readOf m ≡ Read h) where
     abbrev message : Message
@@ -109,15 +111,15 @@ module _ {k : KeyData} {i : ℕ} (v : Sane k i) {t : List ℕ} {past : List Mess
     abbrev entry : Entry
     entry = entryOf (slotOf t i)
 
-    whole : undamaged (slotOf t i) ≡ true
-    whole = parts-undamaged (v .sound) (held .parts) (now .agrees .whole)
+    unharmed : undamaged (slotOf t i) ≡ true
+    unharmed = parts-undamaged (v .sound) (held .parts) (now .agrees .undamaged)
 
     -- a number that is not new is not counted, whatever the ICV
     not-new : (r : Bool) → new (h .seqnum) ≡ false → provided new (cond r (one message) nothing) ≡ nothing
     not-new true n = rw n
     not-new false n = refl
 
-    handing : verdictOf (entry .window) (h .seqnum) ≡ Admissible → Leaves k i t past m out (one message) (handedOut t i h m out)
+    handing : verdictOf (entry .window) (h .seqnum) ≡ Admissible → Meets k i t past m out (one message) (handedOut t i h m out)
     unfolding handedOut
     handing w =
         let room = read-room m read in
@@ -128,7 +130,7 @@ module _ {k : KeyData} {i : ℕ} (v : Sane k i) {t : List ℕ} {past : List Mess
             gives = rw (eq-eqb i i refl);
             stands = record {
               held = held-settled v held next;
-              agrees = subst (λ (x : Entry). Agrees (k .size) x (message ∷ past)) (sym (entry-settled v held next (agrees .whole) refl)) agrees;
+              agrees = subst (λ (x : Entry). Agrees (k .frame) x (message ∷ past)) (sym (entry-settled v held next (agrees .undamaged) refl)) agrees;
             };
             untouched = λ z. cc;
           };
@@ -138,34 +140,34 @@ module _ {k : KeyData} {i : ℕ} (v : Sane k i) {t : List ℕ} {past : List Mess
     -- past the suite, the verdict decides
     judging : eqb (csOf (slotOf t i)) (numberOf (h .suite)) ≡ true → (w : Verdict) → verdictOf (entry .window) (h .seqnum) ≡ w
         → judged w t i h m out ≡ arrived t i h m out
-    judging suite w q = by-verdict t i h m out whole (eqb-true (csOf (slotOf t i)) (numberOf (h .suite)) suite) w q
+    judging suite w q = by-verdict t i h m out unharmed (eqb-true (csOf (slotOf t i)) (numberOf (h .suite)) suite) w q
 
     by-tests : (suite below used icv : Bool) → eqb (csOf (slotOf t i)) (numberOf (h .suite)) ≡ suite
-        → verdictOf (entry .window) (h .seqnum) ≡ judge below used → right h (keyOf (slotOf t i)) (sourceOf (slotOf t i)) m ≡ icv
+        → verdictOf (entry .window) (h .seqnum) ≡ judge below used → right h (keyDataOf (slotOf t i)) m ≡ icv
         → new (h .seqnum) ≡ (not below && not used)
-        → Leaves k i t past m out (provided new (cond (suite && icv) (one message) nothing)) (arrived t i h m out)
+        → Meets k i t past m out (provided new (cond (suite && icv) (one message) nothing)) (arrived t i h m out)
     by-tests false below used icv p q r n =
-        subst (Leaves k i t past m out nothing) (other-suite t i h m out whole (eqb-false (csOf (slotOf t i)) (numberOf (h .suite)) p)) (refusing m out 8 (lit≤ tt))
-    by-tests true true used icv p q r n = rw (not-new icv n) (subst (Leaves k i t past m out nothing) (judging p Below q) (refusing m out 9 (lit≤ tt)))
-    by-tests true false true icv p q r n = rw (not-new icv n) (subst (Leaves k i t past m out nothing) (judging p Marked q) (refusing m out 10 (lit≤ tt)))
-    by-tests true false false false p q r n = subst (Leaves k i t past m out nothing) (wrong-icv t i h m out r ∙ judging p Admissible q) (refusing m out 11 (lit≤ tt))
-    by-tests true false false true p q r n = rw n (subst (Leaves k i t past m out (one message)) (right-icv t i h m out r ∙ judging p Admissible q) (handing q))
+        subst (Meets k i t past m out nothing) (other-suite t i h m out unharmed (eqb-false (csOf (slotOf t i)) (numberOf (h .suite)) p)) (refusing m out 8 (lit≤ tt))
+    by-tests true true used icv p q r n = rw (not-new icv n) (subst (Meets k i t past m out nothing) (judging p Below q) (refusing m out 9 (lit≤ tt)))
+    by-tests true false true icv p q r n = rw (not-new icv n) (subst (Meets k i t past m out nothing) (judging p Marked q) (refusing m out 10 (lit≤ tt)))
+    by-tests true false false false p q r n = subst (Meets k i t past m out nothing) (wrong-icv t i h m out r ∙ judging p Admissible q) (refusing m out 11 (lit≤ tt))
+    by-tests true false false true p q r n = rw n (subst (Meets k i t past m out (one message)) (right-icv t i h m out r ∙ judging p Admissible q) (handing q))
 
-    here : Leaves k i t past m out (provided new (cond (eqb (k .cs) (numberOf (h .suite)) && right h (k .key) (k .source) m) (one message) nothing)) (arrived t i h m out)
+    here : Meets k i t past m out (provided new (cond (eqb (k .keys .suite) (numberOf (h .suite)) && right h (k .keys) m) (one message) nothing)) (arrived t i h m out)
     here =
         let p = held .parts in
-        by-tests (eqb (k .cs) (numberOf (h .suite))) (ltb (h .seqnum) (floorAt (record { size = k .size }) (highestOf (numbers past)))) (isIn (h .seqnum) (numbers past))
-        (right h (k .key) (k .source) m) (rw (p .cs-is)) (verdict-agrees (now .agrees) (h .seqnum)) (rw (p .key-is, p .source-is)) refl
+        by-tests (eqb (k .keys .suite) (numberOf (h .suite))) (ltb (h .seqnum) (floorAt (k .frame) (highestOf (numbers past)))) (isIn (h .seqnum) (numbers past))
+        (right h (k .keys) m) (rw (p .cs-is)) (verdict-agrees (now .agrees) (h .seqnum)) (rw (p .key-is, p .source-is)) refl
 
   -- ---- any call
 
   module _ (m source out : List ℕ) (b : Bytes m) where
-    reads : (p : Parsed) → readOf m ≡ p → Leaves k i t past m out (provided new (genuine k p m source)) (parsed p t m source out)
-    reads (Read h) e = by (isOf k h m source) refl
+    reads : (p : Parsed) → readOf m ≡ p → Meets k i t past m out (provided new (genuine (k .keys) p m source)) (parsed p t m source out)
+    reads (Read h) e = by (isOf (k .keys) h m source) refl
       where
-        by : (x : Bool) → isOf k h m source ≡ x
-            → Leaves k i t past m out
-            (provided new (cond (x && eqb (k .cs) (numberOf (h .suite)) && right h (k .key) (k .source) m) (one (record { number = h .seqnum; payload = payloadLength h m })) nothing))
+        by : (x : Bool) → isOf (k .keys) h m source ≡ x
+            → Meets k i t past m out
+            (provided new (cond (x && eqb (k .keys .suite) (numberOf (h .suite)) && right h (k .keys) m) (one (record { number = h .seqnum; payload = payloadLength h m })) nothing))
             (led (leadsTo t (h .flag) (keyIdBytes h m) source) t h m out)
         by true p = rw (leads-here v held (h .flag) (keyIdBytes h m) source (names-facts k (h .flag) (keyIdBytes h m) source p)) (here h m out b e)
         by false p =
@@ -176,41 +178,41 @@ module _ {k : KeyData} {i : ℕ} (v : Sane k i) {t : List ℕ} {past : List Mess
     reads BadSuite e = refusing m out 4 (lit≤ tt)
     reads TooShort e = refusing m out 5 (lit≤ tt)
 
-    pub arrives : Leaves k i t past m out (counts k past (arrival m source out)) (received t m source out)
+    pub arrives : Meets k i t past m out (counts k past (arrival m source out)) (received t m source out)
     unfolding received
-    arrives = by (ltb (length out) 2048)
+    arrives = by (ltb (length out) outputRoom)
       where
         by : (x : Bool)
-            → Leaves k i t past m out (provided new (cond x nothing (genuine k (readOf m) m source))) (cond x (kept t out 1) (parsed (readOf m) t m source out))
+            → Meets k i t past m out (provided new (cond x nothing (genuine (k .keys) (readOf m) m source))) (cond x (kept t out 1) (parsed (readOf m) t m source out))
         by true = refusing m out 1 (lit≤ tt)
         by false = reads (readOf m) refl
 
   -- another slot takes what does not match
-  replacing : (j : ℕ) → j < 16 → (j ≡ i → ⊥) → (s : List ℕ) → length s ≡ 288 → matches (k .flag) (k .keyId) (k .source) s ≡ false
+  replacing : (j : ℕ) → j < slotCount → (j ≡ i → ⊥) → (s : List ℕ) → length s ≡ slotLength → matches (k .keys .flag) (k .keys .keyId) (k .keys .source) s ≡ false
       → Does k i t past nothing (replaced t j s) nothing
   replacing j small other s n differs =
       passing nothing (replaced t j s) refl (held-beside v held j small other s n differs) (slot-beside v held j small other s n)
 
-  installs : (other : KeyData) → Bytes (other .keyId) → Does k i t past nothing (entered t other .table) nothing
-  installs other b = by (install-outcome t (other .flag) (other .keyId) (other .source) (other .cs) (other .key) (other .size))
+  installs : (other : Framed) → Bytes (other .keys .keyId) → Does k i t past nothing (entered t other .table) nothing
+  installs other b = by (install-outcome t (other .keys) (other .frame))
     where
       fresh : List ℕ
-      fresh = freshSlot (other .flag) (other .keyId) (other .source) (other .cs) (other .key) (other .size)
+      fresh = freshSlot (other .keys) (other .frame)
 
-      by : Refuses t (entered t other) ⊎ ((j : ℕ) × Enters t (other .flag) (other .keyId) (other .source) (other .cs) (other .key) (other .size) j)
+      by : Refuses t (entered t other) ⊎ ((j : ℕ) × Enters t (other .keys) (other .frame) j)
           → Does k i t past nothing (entered t other .table) nothing
       by (inl r) = rw (r .is) (passing nothing t refl held refl)
       by (inr (j, n)) =
-          let sound = sound-facts (other .flag) (other .keyId) (other .source) (other .cs) (other .key) (n .fair .sound) in
-          let parts : PartsOf other fresh = fresh-parts sound (b 0) (other .size) in
-          let free = eqb-true (getD (slotOf t j) 0 0) 0 (not-false (eqb (getD (slotOf t j) 0 0) 0) (free-empty t j (n .free))) in
+          let sound = sound-facts (other .keys) (n .fair .sound) in
+          let parts : Parts (other .keys) fresh = fresh-parts sound (b 0) (other .frame) in
+          let free = eqb-true (getD (slotOf t j) occupiedAt 0) 0 (not-false (eqb (getD (slotOf t j) occupiedAt 0) 0) (free-empty t j (n .free))) in
           rw (n .is)
           (replacing j (free-small t j (n .free))
           (λ same. omega (arith, held .parts .first, rw same at free))
-          fresh (length-fresh sound (b 0) (other .size))
+          fresh (length-fresh sound (b 0) (other .frame))
           (not-eq-not .0
           (λ hit.
-          let found = leads-here v held (other .flag) (other .keyId) (other .source) (names-back (match-names other (k .flag) (k .keyId) (k .source) parts hit)) in
+          let found = leads-here v held (other .keys .flag) (other .keys .keyId) (other .keys .source) (names-back (match-names other (k .keys .flag) (k .keys .keyId) (k .keys .source) parts hit)) in
           let z : _≡_ {A = ℕ} 0 1 = cc in
           omega arith)))
 
@@ -221,8 +223,8 @@ module _ {k : KeyData} {i : ℕ} (v : Sane k i) {t : List ℕ} {past : List Mess
       by (inl r) = rw (r .is) (passing nothing t refl held refl)
       by (inr f) =
           rw (f .is)
-          (replacing j (f .small) other emptySlot (length-replicate {A = ℕ} 288 0)
-          (sym (no-match (k .flag) (k .keyId) (k .source) emptySlot (λ a. a .held refl))))
+          (replacing j (f .small) other emptySlot (length-replicate {A = ℕ} slotLength 0)
+          (sym (no-match (k .keys .flag) (k .keys .keyId) (k .keys .source) emptySlot (λ a. a .held refl))))
 
   pub step : (c : Call) → OfBytes c → Spares i c → Does k i t past (handed i t c) (after t c) (counts k past c)
   step (arrival m source out) b s = arrives m source out b .does

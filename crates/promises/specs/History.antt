@@ -5,40 +5,38 @@ use mathlib.Core.List.{List, [], _∷_, map}
 use Prim.Native.Nat.{ℕ, _+_, max}
 use lib.Dec.{eqb, ltb}
 use lib.ListN.{length}
+use Rattle.answers.specs.Answers.{outputRoom}
 use Rattle.octets.specs.Octets.{Bytes, same}
-use Rattle.window.specs.Window.{floorAt}
-use Rattle.message.specs.Suite.{numberOf}
-use Rattle.message.specs.Header.{readOf}
-use Rattle.message.specs.Sealing.{right, payloadLength}
-use Rattle.message.specs.declared.answer.Answer.{Answer}
-use Rattle.message.specs.declared.header.Header.{Header}
-use Rattle.message.specs.declared.header.Parsed.{Parsed}
-use Rattle.message.specs.declared.header.Parsed.the-variants.{Read, BadLength, BadVersion, BadSuite, TooShort}
-use Rattle.gateway.specs.Table.{slotOf, entryOf}
-use Rattle.gateway.specs.Record.{undamaged}
-use Rattle.gateway.specs.Install.{Left, installed, removed}
-use Rattle.gateway.specs.Receive.{received, keyIdBytes}
+use Rattle.window.specs.Window.{Frame, floorAt}
+use Rattle.format.specs.KeyData.{KeyData}
+use Rattle.format.specs.Suite.{numberOf}
+use Rattle.format.specs.Header.{readOf, payloadLength, keyIdBytes}
+use Rattle.message.specs.Sealing.{right}
+use Rattle.answers.specs.declared.Answer.{Answer}
+use Rattle.format.specs.declared.header.Header.{Header}
+use Rattle.format.specs.declared.header.Parsed.{Parsed}
+use Rattle.format.specs.declared.header.Parsed.the-variants.{Read, BadLength, BadVersion, BadSuite, TooShort}
+use Rattle.slots.specs.Table.{slotOf, entryOf}
+use Rattle.slots.specs.Record.{undamaged}
+use Rattle.entries.specs.Install.{Left, installed, removed}
+use Rattle.gateway.specs.Receive.{received}
 
 -- ---- calls on a table
 
--- what an install is handed: an entry's key data, and Size
-pub record KeyData : Type 0 where
-  pub flag : ℕ
-  pub keyId : List ℕ
-  pub source : List ℕ
-  pub cs : ℕ
-  pub key : List ℕ
-  pub size : ℕ
+-- what an install is handed: an entry's key data, and what it settles of the window
+pub record Framed : Type 0 where
+  pub keys : KeyData
+  pub frame : Frame
 
 pub data Call : Type 0 where
   -- a message, the source supplied with it, and the output
   arrival : List ℕ → List ℕ → List ℕ → Call
-  install : KeyData → Call
+  install : Framed → Call
   -- a slot
   remove : ℕ → Call
 
-abbrev pub entered : List ℕ → KeyData → Left
-entered t k = installed t (k .flag) (k .keyId) (k .source) (k .cs) (k .key) (k .size)
+abbrev pub entered : List ℕ → Framed → Left
+entered t k = installed t (k .keys) (k .frame)
 
 -- the table after a call and after several, as the functions' contracts say
 abbrev pub after : List ℕ → Call → List ℕ
@@ -88,7 +86,7 @@ isOf k h message source = eqb (k .flag) (h .flag) && same (k .keyId) (keyIdBytes
 -- "It is genuine if none of replies 2, 3, 4, 5, 6 and 8 fits it and its ICV is right under that entry's key; the window plays no part."
 abbrev pub genuine : KeyData → Parsed → List ℕ → List ℕ → Handed
 genuine k (Read h) message source =
-    cond (isOf k h message source && eqb (k .cs) (numberOf (h .suite)) && right h (k .key) (k .source) message)
+    cond (isOf k h message source && eqb (k .suite) (numberOf (h .suite)) && right h k message)
     (one (record { number = h .seqnum; payload = payloadLength h message })) nothing
 genuine k BadLength message source = nothing
 genuine k BadVersion message source = nothing
@@ -96,8 +94,8 @@ genuine k BadSuite message source = nothing
 genuine k TooShort message source = nothing
 
 -- a genuine message that "came with room": no refusal by reply 1
-abbrev pub brought : KeyData → Call → Handed
-brought k (arrival message source out) = cond (ltb (length out) 2048) nothing (genuine k (readOf message) message source)
+abbrev pub brought : Framed → Call → Handed
+brought k (arrival message source out) = cond (ltb (length out) outputRoom) nothing (genuine (k .keys) (readOf message) message source)
 brought k (install other) = nothing
 brought k (remove i) = nothing
 
@@ -114,23 +112,23 @@ isIn n [] = false
 isIn n (m ∷ ms) = eqb n m || isIn n ms
 
 -- "is not below the floor of the highest number counted before, and no counted message had its number"
-abbrev pub isNew : ℕ → List ℕ → ℕ → Bool
-isNew size counted n = not (ltb n (floorAt (record { size = size }) (highestOf counted))) && not (isIn n counted)
+abbrev pub isNew : Frame → List ℕ → ℕ → Bool
+isNew frame counted n = not (ltb n (floorAt frame (highestOf counted))) && not (isIn n counted)
 
 abbrev pub provided : (ℕ → Bool) → Handed → Handed
 provided test nothing = nothing
 provided test (one x) = cond (test (x .number)) (one x) nothing
 
 -- what is counted of a call, after the messages counted before it
-abbrev pub counts : KeyData → List Message → Call → Handed
-counts k past c = provided (isNew (k .size) (numbers past)) (brought k c)
+abbrev pub counts : Framed → List Message → Call → Handed
+counts k past c = provided (isNew (k .frame) (numbers past)) (brought k c)
 
 -- all that is counted
-abbrev pub countedFrom : KeyData → List Message → List Call → List Message
+abbrev pub countedFrom : Framed → List Message → List Call → List Message
 countedFrom k past [] = past
 countedFrom k past (c ∷ cs) = countedFrom k (noted past (counts k past c)) cs
 
-abbrev pub counted : KeyData → List Call → List Message
+abbrev pub counted : Framed → List Call → List Message
 counted k cs = countedFrom k [] cs
 
 -- the different numbers of a list, each once; and the sum of payload lengths
@@ -147,7 +145,7 @@ total (x ∷ past) = total past + x .payload
 -- messages and KeyIds are of bytes, as all that a caller can hand in is
 abbrev pub OfBytes : Call → Type 0
 OfBytes (arrival message source out) = Bytes message
-OfBytes (install k) = Bytes (k .keyId)
+OfBytes (install k) = Bytes (k .keys .keyId)
 OfBytes (remove i) = Unit {0}
 
 abbrev pub AllOfBytes : List Call → Type 0
@@ -166,7 +164,7 @@ SpareAll i [] = Unit {0}
 SpareAll i (c ∷ cs) = OfBytes c × Spares i c × SpareAll i cs
 
 -- The slot i of a table accounts for the messages counted so far.
-pub record Accounts (k : KeyData) (i : ℕ) (t : List ℕ) (past : List Message) : Type 0 where
+pub record Accounts (k : Framed) (i : ℕ) (t : List ℕ) (past : List Message) : Type 0 where
   -- exactly what is counted is handed out at the slot by the next call
   pub exactly : (c : Call) → OfBytes c → handed i t c ≡ counts k past c
   -- the totals: how many different numbers were counted, and the sum of their payload lengths
@@ -175,4 +173,4 @@ pub record Accounts (k : KeyData) (i : ℕ) (t : List ℕ) (past : List Message)
   -- no number was counted twice
   pub once : different (numbers past) ≡ numbers past
   pub highest : entryOf (slotOf t i) .window .highest ≡ highestOf (numbers past)
-  pub whole : undamaged (slotOf t i) ≡ true
+  pub not-damaged : undamaged (slotOf t i) ≡ true

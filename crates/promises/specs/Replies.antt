@@ -2,25 +2,26 @@
 use mathlib.Core.Bool.{Bool, true, false, cond, not, _||_, _&&_}
 use mathlib.Core.List.{List, [], _∷_}
 use Prim.Native.Nat.{ℕ, _+_, _-_, _^_}
-use lib.Dec.{eqb, leb, ltb}
+use lib.Dec.{eqb, ltb}
 use lib.ListN.{length}
+use Rattle.answers.specs.Answers.{outputRoom}
 use Rattle.octets.specs.Octets.{part}
-use Rattle.window.specs.Window.{floorOf, marked}
-use Rattle.message.specs.KeyId.{lengthOf}
-use Rattle.message.specs.KeyData.{known, soundOf}
-use Rattle.message.specs.Suite.{suiteOf, icvLengthOf}
-use Rattle.message.specs.Header.{flagIn, versionIn, csIn, keyIdIn, seqNumIn, readOf}
+use Rattle.window.specs.Window.{floorOf, marked, Frame, soundFrame}
+use Rattle.format.specs.KeyId.{lengthOf}
+use Rattle.format.specs.KeyData.{known, soundOf, KeyData}
+use Rattle.format.specs.Suite.{suiteOf, icvLengthOf}
+use Rattle.format.specs.Header.{flagIn, versionIn, csIn, keyIdIn, seqNumIn, readOf, leastMessage, greatestMessage, fixedBytes}
 use Rattle.message.specs.Sealing.{right}
-use Rattle.message.specs.declared.header.Parsed.{Parsed}
-use Rattle.message.specs.declared.header.Parsed.the-variants.{Read, BadLength, BadVersion, BadSuite, TooShort}
-use Rattle.message.specs.declared.suite.Numbered.{Numbered}
-use Rattle.message.specs.declared.suite.Numbered.the-variants.{Known, Unknown}
-use Rattle.gateway.specs.Table.{slotOf, occupied, csOf, sourceOf, keyOf, windowOf}
-use Rattle.gateway.specs.Lookup.{leadsTo, firstFree}
-use Rattle.gateway.specs.Record.{undamaged}
-use Rattle.gateway.specs.declared.lookup.Found.{Found}
-use Rattle.gateway.specs.declared.lookup.Found.the-variants.{At, Nothing}
-use Rattle.sender.specs.Protect.{keyIdOf, soundRecord}
+use Rattle.format.specs.declared.header.Parsed.{Parsed}
+use Rattle.format.specs.declared.header.Parsed.the-variants.{Read, BadLength, BadVersion, BadSuite, TooShort}
+use Rattle.format.specs.declared.suite.Numbered.{Numbered}
+use Rattle.format.specs.declared.suite.Numbered.the-variants.{Known, Unknown}
+use Rattle.slots.specs.Table.{slotOf, occupied, csOf, windowOf, slotCount, keyDataOf}
+use Rattle.lookup.specs.Lookup.{leadsTo, firstFree}
+use Rattle.slots.specs.Record.{undamaged}
+use Rattle.lookup.specs.declared.Found.{Found}
+use Rattle.lookup.specs.declared.Found.the-variants.{At, Nothing}
+use Rattle.sender.specs.Protect.{keyDataIn, soundRecord}
 use Rattle.sender.specs.declared.Sender.{Sender}
 
 -- a reply and its case
@@ -36,9 +37,9 @@ abbrev pub firstOf : List Reply → ℕ
 firstOf [] = 0
 firstOf (r ∷ rs) = cond (r .fits) (r .number) (firstOf rs)
 
-abbrev pub nothing : Found → Bool
-nothing (At i) = false
-nothing Nothing = true
+abbrev pub isNothing : Found → Bool
+isNothing (At i) = false
+isNothing Nothing = true
 
 -- ---- receive
 
@@ -58,7 +59,7 @@ slotIn t Nothing = slotOf t 0
 
 -- whether the ICV is right, where the header is read
 abbrev pub rightIn : Parsed → List ℕ → List ℕ → Bool
-rightIn (Read h) s m = right h (keyOf s) (sourceOf s) m
+rightIn (Read h) s m = right h (keyDataOf s) m
 rightIn BadLength s m = false
 rightIn BadVersion s m = false
 rightIn BadSuite s m = false
@@ -68,17 +69,17 @@ unfoldable pub receiveReplies : List ℕ → List ℕ → List ℕ → List ℕ 
 receiveReplies t m source out =
     let s = slotIn t (ledTo t m source) in
     -- output buffer under 2,048 bytes
-    reply 1 (ltb (length out) 2048)
+    reply 1 (ltb (length out) outputRoom)
     -- message not 14 to 2,048 bytes
-    ∷ reply 2 (ltb (length m) 14 || ltb 2048 (length m))
+    ∷ reply 2 (ltb (length m) leastMessage || ltb greatestMessage (length m))
     -- Version not 0
     ∷ reply 3 (not (eqb (versionIn m) 0))
     -- CS not 1 or 2
     ∷ reply 4 (not (known (suiteOf (csIn m))))
     -- message shorter than 9 + L + 4
-    ∷ reply 5 (ltb (length m) (9 + lengthOf (keyIdIn m) + icvIn (suiteOf (csIn m))))
+    ∷ reply 5 (ltb (length m) (fixedBytes + lengthOf (keyIdIn m) + icvIn (suiteOf (csIn m))))
     -- no slot matches
-    ∷ reply 6 (nothing (ledTo t m source))
+    ∷ reply 6 (isNothing (ledTo t m source))
     -- record damaged
     ∷ reply 7 (not (undamaged s))
     -- CS not the entry's
@@ -93,20 +94,20 @@ receiveReplies t m source out =
 
 -- ---- install and remove
 
-unfoldable pub installReplies : List ℕ → ℕ → List ℕ → List ℕ → ℕ → List ℕ → ℕ → List Reply
-installReplies t flag keyId source cs key size =
+unfoldable pub installReplies : List ℕ → KeyData → Frame → List Reply
+installReplies t k f =
     -- key data unsound, Size with it
-    reply 13 (not (soundOf flag keyId source cs key && leb 1 size && leb size 256))
+    reply 13 (not (soundOf k && soundFrame f))
     -- an occupied slot has the same flag and KeyId and, for flag 1, source
-    ∷ reply 14 (not (nothing (leadsTo t flag keyId source)))
+    ∷ reply 14 (not (isNothing (leadsTo t (k .flag) (k .keyId) (k .source))))
     -- no free slot
-    ∷ reply 15 (nothing (firstFree t))
+    ∷ reply 15 (isNothing (firstFree t))
     ∷ []
 
 unfoldable pub removeReplies : List ℕ → ℕ → List Reply
 removeReplies t i =
     -- slot over 15, or free
-    reply 16 (not (ltb i 16 && occupied (slotOf t i)))
+    reply 16 (not (ltb i slotCount && occupied (slotOf t i)))
     ∷ []
 
 -- ---- listing
@@ -114,9 +115,9 @@ removeReplies t i =
 unfoldable pub listingReplies : List ℕ → ℕ → List ℕ → List Reply
 listingReplies t i out =
     -- output buffer under 2,048 bytes
-    reply 1 (ltb (length out) 2048)
+    reply 1 (ltb (length out) outputRoom)
     -- slot over 15, or free
-    ∷ reply 16 (not (ltb i 16 && occupied (slotOf t i)))
+    ∷ reply 16 (not (ltb i slotCount && occupied (slotOf t i)))
     -- record damaged
     ∷ reply 7 (not (undamaged (slotOf t i)))
     ∷ []
@@ -126,11 +127,11 @@ listingReplies t i out =
 unfoldable pub protectReplies : Sender → List ℕ → List ℕ → List Reply
 protectReplies s payload out =
     -- output buffer under 2,048 bytes
-    reply 1 (ltb (length out) 2048)
+    reply 1 (ltb (length out) outputRoom)
     -- unsound key data, or current over 2^48 − 1
     ∷ reply 7 (not (soundRecord (s .keys) && ltb (s .current) (2 ^ 48)))
     -- payload over 2,035 − L
-    ∷ reply 2 (ltb (2048 - (9 + length (keyIdOf (s .keys)) + icvIn (suiteOf (s .keys .suite)))) (length payload))
+    ∷ reply 2 (ltb (greatestMessage - (fixedBytes + length (keyDataIn (s .keys) .keyId) + icvIn (suiteOf (s .keys .suite)))) (length payload))
     -- current number is 2^48 − 1
     ∷ reply 12 (eqb (s .current) (2 ^ 48 - 1))
     ∷ []

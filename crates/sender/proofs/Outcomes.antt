@@ -6,12 +6,12 @@ use mathlib.Core.List.{List}
 use Prim.Native.Nat.{ℕ, _+_, _-_, _^_, _≤_, _<_}
 use borrow.Author.Tests.{lt-ltb, le-ltb, eq-eqb, ne-eqb}
 use lib.ListN.{length}
-use lib.ListN.{length as long}
+use Rattle.answers.specs.Answers.{outputRoom}
 use Rattle.octets.specs.Octets.{put}
-use Rattle.message.specs.Suite.{suiteOf}
-use Rattle.message.specs.declared.suite.Numbered.the-variants.{Known, Unknown}
-use Rattle.message.specs.declared.suite.Suite.{Suite}
-use Rattle.sender.specs.Protect.{soundRecord, withNumber, messageOf, refusal, refusedAt, sent, longestPayload, numbered, outcomeOf, Protects}
+use Rattle.format.specs.Suite.{suiteOf}
+use Rattle.format.specs.declared.suite.Numbered.the-variants.{Known, Unknown}
+use Rattle.format.specs.declared.suite.Suite.{Suite}
+use Rattle.sender.specs.Protect.{soundRecord, withNumber, messageOf, refusal, refusedAt, sent, payloadLimit, numbered, outcomeOf, Protects}
 use Rattle.sender.specs.declared.Protected.{Protected}
 use Rattle.sender.specs.declared.Sender.{Sender}
 
@@ -21,40 +21,40 @@ module _ (s : Sender) (payload out : List ℕ) where
       → Protects s payload out (r .answer) (withNumber s (r .current)) out
   refuses e f = record { answers = rw (e, f); moves = rw (e, f); writes = rw e }
 
-  pub sends : (suite : Suite) (n length : ℕ) {z : List ℕ} → outcomeOf s payload out ≡ sent suite (s .keys) n payload out
-      → length ≡ long (messageOf suite (s .keys) n payload) → z ≡ put out 0 (messageOf suite (s .keys) n payload)
-      → Protects s payload out (record { reply = 0; length = length; slot = 0; seqnum = n }) (withNumber s n) z
+  pub sends : (suite : Suite) (n count : ℕ) {z : List ℕ} → outcomeOf s payload out ≡ sent suite (s .keys) n payload out
+      → count ≡ length (messageOf suite (s .keys) n payload) → z ≡ put out 0 (messageOf suite (s .keys) n payload)
+      → Protects s payload out (record { reply = 0; length = count; slot = 0; seqnum = n }) (withNumber s n) z
   unfolding sent
-  sends suite n length e a f = record { answers = rw (e, a); moves = rw e; writes = rw e f }
+  sends suite n count e a f = record { answers = rw (e, a); moves = rw e; writes = rw e f }
 
-  pub no-room : length out < 2048 → outcomeOf s payload out ≡ refusal 1 s out
+  pub no-room : length out < outputRoom → outcomeOf s payload out ≡ refusal 1 s out
   unfolding outcomeOf
-  no-room h = rw (lt-ltb (length out) 2048 h)
+  no-room h = rw (lt-ltb (length out) outputRoom h)
 
-  module _ (room : 2048 ≤ length out) where
-    pub unsound : soundRecord (s .keys) ≡ false → outcomeOf s payload out ≡ refusal 7 s out
+  module _ (room : outputRoom ≤ length out) where
+    pub unsound-record : soundRecord (s .keys) ≡ false → outcomeOf s payload out ≡ refusal 7 s out
     unfolding outcomeOf
-    unsound h = rw (le-ltb (length out) 2048 room, h)
+    unsound-record h = rw (le-ltb (length out) outputRoom room, h)
 
     pub over : 2 ^ 48 ≤ s .current → outcomeOf s payload out ≡ refusal 7 s out
     unfolding outcomeOf
-    over h = rw (le-ltb (length out) 2048 room, le-ltb (s .current) (2 ^ 48) h, and-false)
+    over h = rw (le-ltb (length out) outputRoom room, le-ltb (s .current) (2 ^ 48) h, and-false)
 
     module _ (sound : soundRecord (s .keys) ≡ true) (small : s .current < 2 ^ 48) where
       within : outcomeOf s payload out ≡ numbered (suiteOf (s .keys .suite)) s payload out
       unfolding outcomeOf
-      within = rw (le-ltb (length out) 2048 room, sound, lt-ltb (s .current) (2 ^ 48) small)
+      within = rw (le-ltb (length out) outputRoom room, sound, lt-ltb (s .current) (2 ^ 48) small)
 
       pub unknown : Unknown ≡ suiteOf (s .keys .suite) → outcomeOf s payload out ≡ refusal 7 s out
       unknown e = within ∙ rw (← e)
 
       module _ (suite : Suite) (known : Known suite ≡ suiteOf (s .keys .suite)) where
-        pub too-long : longestPayload suite (s .keys) < length payload → outcomeOf s payload out ≡ refusal 2 s out
-        too-long h = within ∙ rw (← known, lt-ltb (longestPayload suite (s .keys)) (length payload) h)
+        pub too-long : payloadLimit suite (s .keys) < length payload → outcomeOf s payload out ≡ refusal 2 s out
+        too-long h = within ∙ rw (← known, lt-ltb (payloadLimit suite (s .keys)) (length payload) h)
 
-        module _ (fits : length payload ≤ longestPayload suite (s .keys)) where
+        module _ (fits : length payload ≤ payloadLimit suite (s .keys)) where
           pub ended : s .current ≡ 2 ^ 48 - 1 → outcomeOf s payload out ≡ refusal 12 s out
-          ended h = within ∙ rw (← known, le-ltb (longestPayload suite (s .keys)) (length payload) fits, eq-eqb (s .current) (2 ^ 48 - 1) h)
+          ended h = within ∙ rw (← known, le-ltb (payloadLimit suite (s .keys)) (length payload) fits, eq-eqb (s .current) (2 ^ 48 - 1) h)
 
           pub goes : (s .current ≡ 2 ^ 48 - 1 → ⊥) → outcomeOf s payload out ≡ sent suite (s .keys) (s .current + 1) payload out
-          goes h = within ∙ rw (← known, le-ltb (longestPayload suite (s .keys)) (length payload) fits, ne-eqb (s .current) (2 ^ 48 - 1) h)
+          goes h = within ∙ rw (← known, le-ltb (payloadLimit suite (s .keys)) (length payload) fits, ne-eqb (s .current) (2 ^ 48 - 1) h)

@@ -5,29 +5,29 @@ use mathlib.Core.Bool.{true, false}
 use Prim.Native.Nat.{_≤_, _<_}
 use borrow.Author.Tests.{leb-true, le-leb, lt-leb}
 use Rattle.numbers.proofs.Tests.{and-left, and-right}
-use Rattle.message.specs.KeyData.{soundOf}
-use Rattle.sender.specs.Protect.{keyIdOf, sourceOf, soundRecord}
-use Rattle.sender.specs.declared.KeyData.{KeyData}
+use Rattle.format.specs.KeyData.{soundOf}
+use Rattle.sender.specs.Protect.{keyDataIn, soundRecord}
+use Rattle.sender.specs.declared.Keys.{Keys}
 
-module _ (d : KeyData) where
-  pub record Sound : Type 0 where
+module _ (d : Keys) where
+  pub record SoundKeys : Type 0 where
     pub keyid-room : d .«keyid_len» ≤ 128
     pub source-room : d .«source_len» ≤ 32
-    pub keys : soundOf (d .flag) (keyIdOf d) (sourceOf d) (d .suite) (d .key) ≡ true
+    pub keys : soundOf (keyDataIn d) ≡ true
 
-  pub sound-facts : soundRecord d ≡ true → Sound
+  pub record-facts : soundRecord d ≡ true → SoundKeys
   unfolding soundRecord
-  sound-facts h = search (and-left, and-right, leb-true) depth 6
+  record-facts h = search (and-left, and-right, leb-true) depth 6
 
-  pub long-keyid : 128 < d .«keyid_len» → false ≡ soundRecord d
+  pub record-long-keyid : 128 < d .«keyid_len» → false ≡ soundRecord d
   unfolding soundRecord
-  long-keyid h = rw (lt-leb (d .«keyid_len») 128 h)
+  record-long-keyid h = rw (lt-leb (d .«keyid_len») 128 h)
 
   module _ (a : d .«keyid_len» ≤ 128) where
-    pub long-source : 32 < d .«source_len» → false ≡ soundRecord d
+    pub record-long-source : 32 < d .«source_len» → false ≡ soundRecord d
     unfolding soundRecord
-    long-source h = rw (le-leb (d .«keyid_len») 128 a, lt-leb (d .«source_len») 32 h)
+    record-long-source h = rw (le-leb (d .«keyid_len») 128 a, lt-leb (d .«source_len») 32 h)
 
-    pub keys-decide : d .«source_len» ≤ 32 → soundOf (d .flag) (keyIdOf d) (sourceOf d) (d .suite) (d .key) ≡ soundRecord d
+    pub keys-decide : d .«source_len» ≤ 32 → soundOf (keyDataIn d) ≡ soundRecord d
     unfolding soundRecord
     keys-decide b = rw (le-leb (d .«keyid_len») 128 a, le-leb (d .«source_len») 32 b)

@@ -5,31 +5,29 @@ use mathlib.Core.List.{List}
 use Prim.Native.Nat.{ℕ, _+_, _-_, _^_}
 use lib.Dec.{eqb, leb, ltb}
 use lib.ListN.{length, take}
+use Rattle.format.specs.Header.{greatestMessage, fixedBytes}
 use Rattle.octets.specs.Octets.{put}
-use Rattle.message.specs.Answer.{refused}
-use Rattle.message.specs.KeyData.{soundOf}
-use Rattle.message.specs.Suite.{suiteOf, icvLengthOf}
+use Rattle.answers.specs.Answers.{refused, outputRoom}
+use Rattle.format.specs.KeyData.{KeyData, handedIn, soundOf}
+use Rattle.format.specs.Suite.{suiteOf, icvLengthOf}
 use Rattle.message.specs.Sealing.{sealed}
-use Rattle.message.specs.declared.answer.Answer.{Answer}
-use Rattle.message.specs.declared.suite.Numbered.{Numbered}
-use Rattle.message.specs.declared.suite.Numbered.the-variants.{Known, Unknown}
-use Rattle.message.specs.declared.suite.Suite.{Suite}
-use Rattle.sender.specs.declared.KeyData.{KeyData}
+use Rattle.answers.specs.declared.Answer.{Answer}
+use Rattle.format.specs.declared.suite.Numbered.{Numbered}
+use Rattle.format.specs.declared.suite.Numbered.the-variants.{Known, Unknown}
+use Rattle.format.specs.declared.suite.Suite.{Suite}
+use Rattle.sender.specs.declared.Keys.{Keys}
 use Rattle.sender.specs.declared.Sender.{Sender}
 use Rattle.sender.specs.declared.Protected.{Protected}
 
 -- ---- the record
 
-abbrev pub keyIdOf : KeyData → List ℕ
-keyIdOf d = take (d .«keyid_len») (d .keyid)
-
-abbrev pub sourceOf : KeyData → List ℕ
-sourceOf d = take (d .«source_len») (d .source)
+-- the key data that it holds: of the two arrays, as many bytes as their lengths say
+abbrev pub keyDataIn : Keys → KeyData
+keyDataIn d = handedIn (d .flag) (take (d .«keyid_len») (d .keyid)) (take (d .«source_len») (d .source)) (d .suite) (d .key)
 
 -- a length that the record has no room for is unsound too
-unfoldable pub soundRecord : KeyData → Bool
-soundRecord d =
-    leb (d .«keyid_len») 128 && leb (d .«source_len») 32 && soundOf (d .flag) (keyIdOf d) (sourceOf d) (d .suite) (d .key)
+unfoldable pub soundRecord : Keys → Bool
+soundRecord d = leb (d .«keyid_len») 128 && leb (d .«source_len») 32 && soundOf (keyDataIn d)
 
 -- the record with another number, and nothing else of it moved
 abbrev pub withNumber : Sender → ℕ → Sender
@@ -51,11 +49,11 @@ abbrev pub refusedAt : ℕ → ℕ → Protected
 refusedAt reply current = record { answer = refused reply; current = current }
 
 -- the message for number n
-abbrev pub messageOf : Suite → KeyData → ℕ → List ℕ → List ℕ
-messageOf suite d n payload = sealed suite (d .key) (d .flag) (keyIdOf d) (sourceOf d) n payload
+abbrev pub messageOf : Suite → Keys → ℕ → List ℕ → List ℕ
+messageOf suite d n payload = sealed suite (keyDataIn d) n payload
 
 -- "On done, protect returns the message's length, slot 0 and SeqNum"
-unfoldable pub sent : Suite → KeyData → ℕ → List ℕ → List ℕ → Outcome
+unfoldable pub sent : Suite → Keys → ℕ → List ℕ → List ℕ → Outcome
 sent suite d n payload out = record {
   answer = record { reply = 0; length = length (messageOf suite d n payload); slot = 0; seqnum = n };
   current = n;
@@ -63,20 +61,20 @@ sent suite d n payload out = record {
 }
 
 -- "a payload has at most 2,035 − L": what 2,048 bytes leave beside the header and the suite's ICV
-abbrev pub longestPayload : Suite → KeyData → ℕ
-longestPayload suite d = 2048 - (9 + length (keyIdOf d) + icvLengthOf suite)
+abbrev pub payloadLimit : Suite → Keys → ℕ
+payloadLimit suite d = greatestMessage - (fixedBytes + length (keyDataIn d .keyId) + icvLengthOf suite)
 
 -- 2: payload over 2,035 − L; 12: current number is 2^48 − 1. "Protect adds 1 to the current number and uses the result."
 abbrev pub numbered : Numbered → Sender → List ℕ → List ℕ → Outcome
 numbered Unknown s payload out = refusal 7 s out
 numbered (Known suite) s payload out =
-    cond (ltb (longestPayload suite (s .keys)) (length payload)) (refusal 2 s out)
+    cond (ltb (payloadLimit suite (s .keys)) (length payload)) (refusal 2 s out)
     (cond (eqb (s .current) (2 ^ 48 - 1)) (refusal 12 s out) (sent suite (s .keys) (s .current + 1) payload out))
 
 -- 1: output buffer under 2,048 bytes; 7: unsound key data, or current over 2^48 − 1
 unfoldable pub outcomeOf : Sender → List ℕ → List ℕ → Outcome
 outcomeOf s payload out =
-    cond (ltb (length out) 2048) (refusal 1 s out)
+    cond (ltb (length out) outputRoom) (refusal 1 s out)
     (cond (soundRecord (s .keys) && ltb (s .current) (2 ^ 48)) (numbered (suiteOf (s .keys .suite)) s payload out) (refusal 7 s out))
 
 -- that an answer, a record and an output are those that a call leaves

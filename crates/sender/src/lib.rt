@@ -1,23 +1,25 @@
-// The sender's record, and protect: the next message for a payload. The work is done by value; `protect` lends the record and moves only its
-// current number.
+// The sender's record, and protect: the next message for a payload. Everything is by value: whoever keeps the record stores the number that
+// comes back.
 ghost use mathlib.Core.Path.{_≡_};
 ghost use mathlib.Core.Bool.{true};
 ghost use Prim.Native.Nat.{_+_, _^_, _<_, _≤_};
 ghost use lib.ListN.{length};
+ghost use Rattle.format.specs.Header.{greatestMessage, fixedBytes};
+ghost use Rattle.answers.specs.Answers.{outputRoom};
 ghost use Rattle.octets.specs.Octets.{put};
-ghost use Rattle.message.specs.Suite.{icvLengthOf};
-ghost use Rattle.sender.specs.Protect.{keyIdOf, soundRecord, withNumber, messageOf, refusedAt, Protects};
-use message::answer;
-use message::answer::Answer;
-use message::header;
-use message::key_data;
+ghost use Rattle.format.specs.Suite.{icvLengthOf};
+ghost use Rattle.sender.specs.Protect.{keyDataIn, soundRecord, withNumber, messageOf, refusedAt, Protects};
+use answers::Answer;
+use format::header;
+use format::key_data;
+use format::key_data::Terms;
+use format::suite::Numbered;
+use format::suite::Suite;
 use message::sealing;
-use message::suite::Numbered;
-use message::suite::Suite;
 
 // Key data: the first keyid_len and source_len bytes of the two arrays count.
 #[repr(C)]
-pub struct KeyData {
+pub struct Keys {
     pub flag: u8,
     pub keyid: [u8; 128],
     pub keyid_len: usize,
@@ -30,7 +32,7 @@ pub struct KeyData {
 // The sender's record: key data, and the number of the last message.
 #[repr(C)]
 pub struct Sender {
-    pub keys: KeyData,
+    pub keys: Keys,
     pub current: u64,
 }
 
@@ -48,31 +50,31 @@ pub fn protect_by_value(sender: Sender, payload: &[u8], out: &mut [u8]) -> Prote
     let keys = sender.keys;
     let current = sender.current;
     let keyid_len = keys.keyid_len;
-    if out.len() < header::GREATEST {
-        return refuse(1, current);
+    if out.len() < answers::OUTPUT {
+        return refuse(answers::OUTPUT_SMALL, current);
     }
     if !is_sound(keys) {
-        return refuse(7, current);
+        return refuse(answers::DAMAGED, current);
     }
     if window::LAST < current {
-        return refuse(7, current);
+        return refuse(answers::DAMAGED, current);
     }
     let numbered = Suite::numbered(keys.suite);
     let Numbered::Known(suite) = numbered else {
-        return refuse(7, current);
+        return refuse(answers::DAMAGED, current);
     };
-    let longest = header::GREATEST - (9 + keyid_len + suite.icv_length());
+    let longest = header::GREATEST - (header::FIXED + keyid_len + suite.icv_length());
     if longest < payload.len() {
-        return refuse(2, current);
+        return refuse(answers::BAD_LENGTH, current);
     }
     if current == window::LAST {
-        return refuse(12, current);
+        return refuse(answers::NO_NUMBER, current);
     }
     let next = current + 1;
-    let length = seal(keys, suite, next, payload, out);
+    let length = write_message(keys, suite, next, payload, out);
     Protected {
         answer: Answer {
-            reply: 0,
+            reply: answers::DONE,
             length: length,
             slot: 0,
             seqnum: next,
@@ -86,13 +88,13 @@ fn refuse(reply: u64, current: u64) -> Protected
     ensures { λ r. ⌜ r ≡ refusedAt reply current ⌝ }
 {
     Protected {
-        answer: answer::refuse(reply),
+        answer: answers::refuse(reply),
         current: current,
     }
 }
 
 // Whether a record's key data is sound.
-fn is_sound(keys: KeyData) -> bool
+fn is_sound(keys: Keys) -> bool
     ensures { λ r. ⌜ r ≡ soundRecord keys ⌝ }
 {
     let keyid = keys.keyid;
@@ -100,24 +102,22 @@ fn is_sound(keys: KeyData) -> bool
     let key = keys.key;
     let keyid_len = keys.keyid_len;
     let source_len = keys.source_len;
-    if 128 < keyid_len {
+    let terms = Terms {
+        flag: keys.flag,
+        suite: keys.suite,
+    };
+    if key_data::GREATEST_KEYID < keyid_len {
         return false;
     }
-    if 32 < source_len {
+    if key_data::GREATEST_SOURCE < source_len {
         return false;
     }
-    key_data::sound(
-        keys.flag,
-        &keyid[..keyid_len],
-        &source[..source_len],
-        keys.suite,
-        &key,
-    )
+    key_data::sound(terms, &keyid[..keyid_len], &source[..source_len], &key)
 }
 
 // The message with that number is written at the start of the output. Answers its length.
-fn seal(keys: KeyData, suite: Suite, number: u64, payload: &[u8], out: &mut [u8]) -> usize
-    requires { ⌜ (soundRecord keys ≡ true) × (number < 2 ^ 48) × (9 + length (keyIdOf keys) + length (now payload) + icvLengthOf suite ≤ 2048) × (2048 ≤ length (now out)) ⌝ }
+fn write_message(keys: Keys, suite: Suite, number: u64, payload: &[u8], out: &mut [u8]) -> usize
+    requires { ⌜ (soundRecord keys ≡ true) × (number < 2 ^ 48) × (fixedBytes + length (keyDataIn keys .keyId) + length (now payload) + icvLengthOf suite ≤ greatestMessage) × (outputRoom ≤ length (now out)) ⌝ }
     ensures { λ r. ⌜ r ≡ length (messageOf suite keys number (now (payload .entry))) ⌝ }
     ensures { λ r. ⌜ now (out .exit) ≡ put (now (out .entry)) 0 (messageOf suite keys number (now (payload .entry))) ⌝ }
 {
@@ -126,23 +126,18 @@ fn seal(keys: KeyData, suite: Suite, number: u64, payload: &[u8], out: &mut [u8]
     let key = keys.key;
     let keyid_len = keys.keyid_len;
     let source_len = keys.source_len;
+    let terms = Terms {
+        flag: keys.flag,
+        suite: keys.suite,
+    };
     sealing::seal(
         suite,
-        &key,
-        keys.flag,
+        terms,
         &keyid[..keyid_len],
         &source[..source_len],
+        &key,
         number,
         payload,
         out,
     )
-}
-
-// The message for a payload. The record is lent, and only its current number moves; refusals as above, and then nothing moves.
-pub fn protect(sender: &mut Sender, payload: &[u8], out: &mut [u8]) -> Answer
-    ensures { λ r. ⌜ Protects (now (sender .entry)) (now (payload .entry)) (now (out .entry)) r (now (sender .exit)) (now (out .exit)) ⌝ }
-{
-    let done = protect_by_value(*sender, payload, out);
-    sender.current = done.current;
-    done.answer
 }

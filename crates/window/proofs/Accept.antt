@@ -13,7 +13,6 @@ use Rattle.numbers.specs.Digits.{bit}
 use Rattle.numbers.proofs.Bits.{bit-put, put-lt, ones-put, bit-low, bit-high, bit-mod}
 use Rattle.window.specs.Window.{View, floorAt, floorOf, marked, moved, acceptOf}
 use Rattle.window.proofs.Floor.{floor-law, floor-le, floor-mono}
-use Rattle.window.proofs.Marks.{marked-below}
 
 -- What is needed of a window and a number for the laws below.
 pub record Takes (w : View) (n : ℕ) : Type 0 where
@@ -55,9 +54,6 @@ moved-is w top k h =
     subst (λ (x : ℕ). all % 2 ^ x % 2 ^ r ≡ all % 2 ^ r) (omega arith) (mod-mod-pow all (k - r) r)
 
 -- ---- a number is accepted
-
-pub accept-highest : (w : View) (n : ℕ) → acceptOf w n .highest ≡ max (w .highest) n
-accept-highest w n = refl
 
 pub accept-rises : (w : View) (n : ℕ) → floorOf w ≤ floorOf (acceptOf w n)
 accept-rises w n = floor-mono (w .frame) (omega arith)
@@ -102,17 +98,10 @@ module _ {w : View} {n : ℕ} (t : Takes w n) where
       go false p = rw (ne-eqb j n (λ e. omega (arith, leb-false)))
       go true p = rw (← same-gap top j n (omega (arith, leb-true)) (omega arith)) (bit-put (moved w top) (top - n) (top - j) accept-free)
 
-  pub accept-own : marked (acceptOf w n) n ≡ true
-  accept-own = accept-marked n accept-reaches ∙ rw (eq-eqb n n refl)
-
   pub accept-inside : acceptOf w n .marks < 2 ^ (acceptOf w n .highest + 1 - floorOf (acceptOf w n))
   unfolding top moved
   accept-inside =
       put-lt (moved w top) (top - n) (top + 1 - floorAt (w .frame) top) accept-free (mod-lt _ (pow-pos _)) (omega (arith, accept-reaches))
-
-  -- Below the new floor nothing is marked.
-  pub accept-below : (j : ℕ) → j < floorOf (acceptOf w n) → marked (acceptOf w n) j ≡ false
-  accept-below j h = marked-below (acceptOf w n) j accept-inside h
 
   -- The number of marks grows by one, less those that went; and no more went than the floor rose.
   pub accept-ones : (ones (acceptOf w n .marks) ≤ ones (w .marks) + 1)

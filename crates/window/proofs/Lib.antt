@@ -1,7 +1,7 @@
 pub mod Entries
-pub mod FourWords
 pub mod Floor
 pub mod Marks
 pub mod Accept
 pub mod Undamaged
 pub mod Steps
+pub mod Determined

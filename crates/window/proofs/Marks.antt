@@ -1,12 +1,10 @@
 -- Which numbers are marked, and the verdict on a number by that.
 -- Assumes nothing.
 use mathlib.Core.Path.{_≡_, refl}
-use mathlib.Core.Bool.{Bool, true, false, and-false}
-use Prim.Native.Nat.{ℕ, _+_, _-_, _^_, _≤_, _<_}
-use native.Mathlib.Omega.{arith}
+use mathlib.Core.Bool.{Bool, true, false}
+use Prim.Native.Nat.{ℕ, _-_, _≤_, _<_}
 use borrow.Author.Tests.{le-leb, lt-leb, lt-ltb, le-ltb}
 use Rattle.numbers.specs.Digits.{bit}
-use Rattle.numbers.proofs.Bits.{bit-above}
 use Rattle.window.specs.declared.Verdict.the-variants.{Below, Marked, Admissible}
 use Rattle.window.specs.Window.{View, floorOf, marked, judge, verdictOf}
 
@@ -33,7 +31,3 @@ marked-within w n h = rw (le-leb n (w .highest) h)
 pub marked-above : (w : View) (n : ℕ) → w .highest < n → marked w n ≡ false
 unfolding marked
 marked-above w n h = rw (lt-leb n (w .highest) h)
-
-pub marked-below : (w : View) (n : ℕ) → w .marks < 2 ^ (w .highest + 1 - floorOf w) → n < floorOf w → marked w n ≡ false
-unfolding marked
-marked-below w n i h = rw (bit-above (w .marks) (w .highest + 1 - floorOf w) (w .highest - n) i (omega arith), and-false)

@@ -9,11 +9,11 @@ use Rattle.window.specs.declared.Verdict.the-variants.{Admissible}
 use Rattle.window.specs.Window.{View, floorAt, verdictOf, moved, acceptOf}
 use Rattle.window.proofs.Floor.{floor-law}
 use Rattle.window.proofs.Accept.{moved-is, accept-reaches, accept-free}
-use Rattle.window.proofs.Undamaged.{Undamaged, takes}
+use Rattle.window.proofs.Undamaged.{UndamagedWindow, takes}
 
 -- A number that an undamaged window admits, and the larger of it and the highest.
 pub record Accepting (w : View) (n top : ℕ) : Type 0 where
-  pub undamaged : Undamaged w
+  pub undamaged : UndamagedWindow w
   pub admitted : verdictOf w n ≡ Admissible
   pub larger : top ≡ max (w .highest) n
 

@@ -13,51 +13,66 @@ use Rattle.numbers.specs.Digits.{bit}
 use Rattle.numbers.proofs.Bits.{bit-none, ones-in}
 use Rattle.numbers.proofs.Tests.{and-left, and-right, and-both, refuted}
 use Rattle.window.specs.declared.Verdict.the-variants.{Admissible}
-use Rattle.window.specs.Window.{Frame, View, floorOf, marked, verdictOf, acceptOf, countOf, undamagedOf, freshOf}
+use Rattle.window.specs.Window.{Frame, soundFrame, View, floorOf, marked, verdictOf, acceptOf, countOf, undamagedWindow, freshOf}
 use Rattle.window.proofs.Floor.{floor-law}
 use Rattle.window.proofs.Marks.{judged, marked-within}
 use Rattle.window.proofs.Accept.{Takes, accept-reaches, accept-marked, accept-inside, accept-ones}
 
 -- The rule's tests, as facts.
-pub record Undamaged (w : View) : Type 0 where
+pub record UndamagedWindow (w : View) : Type 0 where
   pub sized : 1 ≤ w .frame .size
   pub size-high : w .frame .size ≤ 256
   pub high : w .highest < 2 ^ 48
   pub inside : w .marks < 2 ^ (w .highest + 1 - floorOf w)
   pub headed : (eqb (w .highest) 0 || marked w (w .highest)) ≡ true
 
-pub undamaged-facts : (w : View) → undamagedOf w ≡ true → Undamaged w
-unfolding undamagedOf
+pub undamaged-facts : (w : View) → undamagedWindow w ≡ true → UndamagedWindow w
+unfolding undamagedWindow
 undamaged-facts w h = search (and-left, and-right, leb-true) depth 9
 
-pub undamaged-test : (w : View) → Undamaged w → undamagedOf w ≡ true
-unfolding undamagedOf
+pub undamaged-test : (w : View) → UndamagedWindow w → undamagedWindow w ≡ true
+unfolding undamagedWindow
 undamaged-test w u = search (and-both, le-leb) depth 9
 
--- A window of which one fact fails is damaged.
-pub damaged : (w : View) → (Undamaged w → ⊥) → false ≡ undamagedOf w
-damaged w bad = refuted (undamagedOf w) (λ e. bad (undamaged-facts w e))
+-- A frame of which one fact fails is unsound.
+pub frame-unsound : (f : Frame) → (1 ≤ f .size → f .size ≤ 256 → ⊥) → false ≡ soundFrame f
+frame-unsound f bad =
+    refuted (soundFrame f) (λ e. bad (leb-true _ _ (and-left _ _ e)) (leb-true _ _ (and-right (leb 1 (f .size)) _ e)))
 
-pub damaged-outside : (w : View) → ltb (w .marks) (2 ^ (w .highest + 1 - floorOf w)) ≡ false → false ≡ undamagedOf w
+pub frame-sound : (f : Frame) → 1 ≤ f .size → f .size ≤ 256 → true ≡ soundFrame f
+frame-sound f l h = sym (and-both _ _ (le-leb 1 (f .size) l) (le-leb (f .size) 256 h))
+
+pub frame-most : (f : Frame) → soundFrame f ≡ true → f .size ≤ 256
+frame-most f e = leb-true _ _ (and-right (leb 1 (f .size)) _ e)
+
+pub damaged-frame : (w : View) → soundFrame (w .frame) ≡ false → false ≡ undamagedWindow w
+unfolding undamagedWindow
+damaged-frame w e = rw e
+
+-- A window of which one fact fails is damaged.
+pub damaged : (w : View) → (UndamagedWindow w → ⊥) → false ≡ undamagedWindow w
+damaged w bad = refuted (undamagedWindow w) (λ e. bad (undamaged-facts w e))
+
+pub damaged-outside : (w : View) → ltb (w .marks) (2 ^ (w .highest + 1 - floorOf w)) ≡ false → false ≡ undamagedWindow w
 damaged-outside w e = damaged w (λ u. omega (arith, ltb-false (w .marks) (2 ^ (w .highest + 1 - floorOf w)) e, u .inside))
 
 -- Where all else holds, the highest number decides.
-module _ (w : View) (sized : 1 ≤ w .frame .size) (size-high : w .frame .size ≤ 256) (high : w .highest < 2 ^ 48)
+module _ (w : View) (sound : soundFrame (w .frame) ≡ true) (high : w .highest < 2 ^ 48)
     (inside : ltb (w .marks) (2 ^ (w .highest + 1 - floorOf w)) ≡ true) where
-  head-decides : undamagedOf w ≡ (eqb (w .highest) 0 || marked w (w .highest))
-  unfolding undamagedOf
-  head-decides = rw (le-leb 1 (w .frame .size) sized, le-leb (w .frame .size) 256 size-high, lt-ltb (w .highest) (2 ^ 48) high, inside)
+  head-decides : undamagedWindow w ≡ (eqb (w .highest) 0 || marked w (w .highest))
+  unfolding undamagedWindow
+  head-decides = rw (sound, lt-ltb (w .highest) (2 ^ 48) high, inside)
 
-  pub undamaged-at-zero : w .highest ≡ 0 → true ≡ undamagedOf w
+  pub undamaged-at-zero : w .highest ≡ 0 → true ≡ undamagedWindow w
   undamaged-at-zero z = sym (head-decides ∙ rw (eq-eqb (w .highest) 0 z))
 
-  pub undamaged-by-mark : (w .highest ≡ 0 → ⊥) → bit (w .marks) 0 ≡ undamagedOf w
+  pub undamaged-by-mark : (w .highest ≡ 0 → ⊥) → bit (w .marks) 0 ≡ undamagedWindow w
   undamaged-by-mark z = sym (head-decides ∙ rw (ne-eqb (w .highest) 0 z, marked-within w (w .highest) (omega arith), sub-self))
 
-pub fresh-undamaged : (f : Frame) → 1 ≤ f .size → f .size ≤ 256 → Undamaged (freshOf f)
-fresh-undamaged f l h = record {
-  sized = l;
-  size-high = h;
+pub fresh-undamaged : (f : Frame) → soundFrame f ≡ true → UndamagedWindow (freshOf f)
+fresh-undamaged f h = record {
+  sized = leb-true _ _ (and-left _ _ h);
+  size-high = leb-true _ _ (and-right (leb 1 (f .size)) _ h);
   high = omega arith;
   inside = pow-pos (1 - floorOf (freshOf f));
   headed = refl;
@@ -71,7 +86,7 @@ fresh-unmarked f n = rw (bit-none, and-false)
 held : (w : View) → 1 ≤ w .frame .size → w .frame .size ≤ 256 → w .marks < 2 ^ (w .highest + 1 - floorOf w) → w .marks < 2 ^ 256
 held w s h i = let l = floor-law (w .frame) (w .highest) s in lt-of-lt-of-le i (pow-mono {j = 256} (omega arith))
 
-pub marks-small : {w : View} → Undamaged w → w .marks < 2 ^ 256
+pub marks-small : {w : View} → UndamagedWindow w → w .marks < 2 ^ 256
 marks-small {w} u = held w (u .sized) (u .size-high) (u .inside)
 
 counts : (w : View) → 1 ≤ w .frame .size → w .frame .size ≤ 256 → w .marks < 2 ^ (w .highest + 1 - floorOf w) → countOf w ≡ ones (w .marks)
@@ -79,12 +94,12 @@ counts w s h i = ones-in 256 (w .marks) (held w s h i)
 
 -- ---- a number is accepted
 
-pub takes : {w : View} (n : ℕ) → Undamaged w → verdictOf w n ≡ Admissible → Takes w n
+pub takes : {w : View} (n : ℕ) → UndamagedWindow w → verdictOf w n ≡ Admissible → Takes w n
 takes {w} n u v =
     let j = judged (ltb n (floorOf w)) (marked w n) v in
     record { sized = u .sized; inside = u .inside; reached = ltb-false n (floorOf w) (j .0); unused = j .1 }
 
-module _ {w : View} {n : ℕ} (u : Undamaged w) (t : Takes w n) where
+module _ {w : View} {n : ℕ} (u : UndamagedWindow w) (t : Takes w n) where
   -- The new highest number is marked, or 0.
   accept-headed : (eqb (max (w .highest) n) 0 || marked (acceptOf w n) (max (w .highest) n)) ≡ true
   accept-headed = rw (accept-marked t top (omega (arith, accept-reaches t))) (go (leb (w .highest) n) refl)
@@ -99,7 +114,7 @@ module _ {w : View} {n : ℕ} (u : Undamaged w) (t : Takes w n) where
           let old : marked w (w .highest) ≡ true = rw (ne-eqb (w .highest) 0 (λ z. omega (arith, leb-false))) at (u .headed) in
           rw (same, old, or-true, or-true)
 
-  pub accept-undamaged : n < 2 ^ 48 → Undamaged (acceptOf w n)
+  pub accept-undamaged : n < 2 ^ 48 → UndamagedWindow (acceptOf w n)
   accept-undamaged b = record {
     sized = u .sized;
     size-high = u .size-high;

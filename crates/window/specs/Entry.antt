@@ -2,7 +2,7 @@
 use mathlib.Core.Bool.{Bool, _&&_}
 use Prim.Native.Nat.{ℕ, _+_, _*_}
 use lib.Dec.{leb}
-use Rattle.window.specs.Window.{Frame, View, floorOf, acceptOf, countOf, undamagedOf, freshOf}
+use Rattle.window.specs.Window.{Frame, View, floorOf, acceptOf, countOf, undamagedWindow, freshOf}
 
 pub record Entry : Type 0 where
   pub window : View
@@ -17,11 +17,15 @@ freshEntry f = record { window = freshOf f; accepted = 0; bytes = 0 }
 abbrev pub taken : Entry → ℕ → ℕ → Entry
 taken e n payload = record { window = acceptOf (e .window) n; accepted = e .accepted + 1; bytes = e .bytes + payload }
 
+-- the most bytes that a payload can have, with a KeyId of one byte
+abbrev pub longestPayload : ℕ
+longestPayload = 2034
+
 -- the damage rule but for the key data: that of the window; "accepted is below the number of marks, or above that number plus the floor; or
 -- bytes exceed 2,034 × accepted"
-unfoldable pub wholeOf : Entry → Bool
-wholeOf e =
-    undamagedOf (e .window)
+unfoldable pub undamagedEntry : Entry → Bool
+undamagedEntry e =
+    undamagedWindow (e .window)
     && leb (countOf (e .window)) (e .accepted)
     && leb (e .accepted) (countOf (e .window) + floorOf (e .window))
-    && leb (e .bytes) (2034 * e .accepted)
+    && leb (e .bytes) (longestPayload * e .accepted)

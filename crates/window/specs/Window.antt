@@ -12,6 +12,10 @@ use Rattle.window.specs.declared.Verdict.the-variants.{Below, Marked, Ad
 pub record Frame : Type 0 where
   pub size : ℕ
 
+-- "for an entry, Size is 1 to 256"
+abbrev pub soundFrame : Frame → Bool
+soundFrame f = leb 1 (f .size) && leb (f .size) 256
+
 -- A window as the definitions see it. The marks are one number: its digit of value 2 ^ i stands for the number highest − i.
 pub record View : Type 0 where
   pub frame : Frame
@@ -64,11 +68,11 @@ acceptOf w n =
 abbrev pub countOf : View → ℕ
 countOf w = onesIn 256 (w .marks)
 
--- The damage rule as far as it speaks of the window: Size is 1 to 256; highest does not exceed 2^48 − 1; nothing is marked outside floor to
+-- The damage rule as far as it speaks of the window: its frame is sound; highest does not exceed 2^48 − 1; nothing is marked outside floor to
 -- highest; highest is 0 or marked.
-unfoldable pub undamagedOf : View → Bool
-undamagedOf w =
-    leb 1 (w .frame .size) && leb (w .frame .size) 256 && ltb (w .highest) (2 ^ 48)
+unfoldable pub undamagedWindow : View → Bool
+undamagedWindow w =
+    soundFrame (w .frame) && ltb (w .highest) (2 ^ 48)
     && ltb (w .marks) (2 ^ (w .highest + 1 - floorOf w)) && (eqb (w .highest) 0 || marked w (w .highest))
 
 -- A window as an install leaves it.

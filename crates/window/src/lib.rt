@@ -1,17 +1,19 @@
-// The window of accepted numbers, by value. `specs/Window.antt` says what it is; `words` does its arithmetic.
-mod words;
-
+// The window of accepted numbers, by value. `specs/Window.antt` says what it is; the crate `words` does its arithmetic.
 ghost use mathlib.Core.Path.{_≡_};
 ghost use mathlib.Core.Bool.{true};
 ghost use Prim.Native.Nat.{_+_, _-_, _≤_, min, max};
 ghost use Rattle.window.specs.declared.Verdict.the-variants.{Admissible};
-ghost use Rattle.window.specs.Window.{viewOf, floorOf, verdictOf, acceptOf, countOf, undamagedOf};
+ghost use Rattle.window.specs.Window.{viewOf, floorOf, verdictOf, acceptOf, countOf, soundFrame, undamagedWindow};
+ghost use Rattle.window.specs.Entry.{undamagedEntry};
 
 // The greatest number that a message can have: 2^48 - 1.
 pub const LAST: u64 = 281474976710655;
 
 // The largest Size of a window.
-pub const LARGEST_SIZE: u64 = 256;
+const LARGEST_SIZE: u64 = 256;
+
+// The most bytes that a payload can have.
+const LONGEST_PAYLOAD: u64 = 2034;
 
 // Size, the highest number, and the marks: four words, the lowest first. The bit of value 2^i of the whole stands for highest - i.
 pub struct Window {
@@ -62,7 +64,7 @@ impl Window {
 
     // The window once n, which it finds admissible, is accepted.
     pub fn accept(self, n: u64) -> Window
-        requires { ⌜ (undamagedOf (viewOf self) ≡ true) × (verdictOf (viewOf self) n ≡ Admissible) ⌝ }
+        requires { ⌜ (undamagedWindow (viewOf self) ≡ true) × (verdictOf (viewOf self) n ≡ Admissible) ⌝ }
         ensures { λ r. ⌜ viewOf r ≡ acceptOf (viewOf self) n ⌝ }
     {
         let size = self.size;
@@ -85,13 +87,10 @@ impl Window {
 
     // Whether the damage rule finds nothing in the window.
     pub fn undamaged(self) -> bool
-        ensures { λ r. ⌜ r ≡ undamagedOf (viewOf self) ⌝ }
+        ensures { λ r. ⌜ r ≡ undamagedWindow (viewOf self) ⌝ }
     {
         let marks = self.marks;
-        if self.size == 0 {
-            return false;
-        }
-        if LARGEST_SIZE < self.size {
+        if !sound_frame(self.size) {
             return false;
         }
         if LAST < self.highest {
@@ -120,6 +119,39 @@ impl Window {
     {
         self.highest - self.floor() + 1
     }
+}
+
+// Whether a window may have that Size.
+pub fn sound_frame(size: u64) -> bool
+    ensures { λ r. ⌜ r ≡ soundFrame (record { size = size }) ⌝ }
+{
+    if size == 0 {
+        return false;
+    }
+    if LARGEST_SIZE < size {
+        return false;
+    }
+    true
+}
+
+// Whether the damage rule finds nothing in a window and the totals beside it.
+pub fn undamaged_entry(window: Window, accepted: u64, bytes: u64) -> bool
+    ensures { λ r. ⌜ r ≡ undamagedEntry (record { window = viewOf window; accepted = accepted; bytes = bytes }) ⌝ }
+{
+    if !window.undamaged() {
+        return false;
+    }
+    let count = window.count();
+    if accepted < count {
+        return false;
+    }
+    if count + window.floor() < accepted {
+        return false;
+    }
+    if LONGEST_PAYLOAD * accepted < bytes {
+        return false;
+    }
+    true
 }
 
 // The larger of two numbers.

@@ -3,8 +3,8 @@ use mathlib.Core.Path.{sym, ap}
 use native.Mathlib.Omega.{arith}
 use borrow.Author.Needs.{needs}
 use lib.Seq.{length-take-le}
-use Rattle.message.specs.declared.answer.Answer.{Answer}
-use Rattle.gateway.proofs.Listed.{listed-within}
+use Rattle.answers.specs.declared.Answer.{Answer}
+use Rattle.listing.proofs.Listed.{listed-within}
 use Rattle.open_one.proofs.show.Statement.{statement}
 use Rattle.open_one.proofs.show.Tie as tie
 
@@ -24,6 +24,5 @@ show-spec =
     (λ c κs. search needs)
     within
     slice-aggregate-write-all
-    (λ c κs. search needs)
-    (λ c. search needs)
+    (λ c κs. search needs) (λ c. search needs)
     (λ c. search needs))

@@ -4,7 +4,7 @@ use Prim.Native.Nat.{_≤_}
 use native.Mathlib.Omega.{arith}
 use borrow.Author.Needs.{needs}
 use lib.ListN.{length, length-take}
-use Rattle.sender.proofs.Records.{long-keyid, long-source, keys-decide}
+use Rattle.sender.proofs.Records.{record-long-keyid, record-long-source, keys-decide}
 use Rattle.sender.proofs.is_sound.Statement.{statement}
 use Rattle.sender.proofs.is_sound.Tie as tie
 
@@ -22,12 +22,11 @@ pub is-sound-spec : {M : Type 1} → statement M
 is-sound-spec =
     tie.close
     (tie.spec
-    (λ c. long-keyid _ (c .if1 .taken))
-    (λ c. long-source _ (omega arith) (c .if2 .taken))
+    (λ c. record-long-keyid _ (c .if1 .taken))
+    (λ c. record-long-source _ (omega arith) (c .if2 .taken))
     keyid-fits
     (λ c. simp length-take (omega (arith, keyid-fits (c .before))))
     (λ c. source-fits (c .before))
     (λ c. simp length-take (omega (arith, source-fits (c .before .before))))
-    (λ c. search needs)
-    (λ c κs. search needs)
+    (λ c. search needs) (λ c κs. search needs)
     returns-3)

@@ -7,14 +7,16 @@ use borrow.Author.Needs.{needs}
 use borrow.Author.Tests.{not-true, not-false}
 use lib.ListN.{length}
 use lib.Seq.{length-take-le}
-use Rattle.message.specs.Suite.{suiteOf}
-use Rattle.message.specs.declared.suite.Numbered.the-variants.{Known}
-use Rattle.message.specs.declared.suite.Suite.{Suite}
-use Rattle.message.proofs.Suites.{icv-four}
-use Rattle.sender.specs.Protect.{keyIdOf, soundRecord, longestPayload}
-use Rattle.sender.specs.declared.KeyData.{KeyData}
-use Rattle.sender.proofs.Outcomes.{refuses, sends, no-room, unsound, over, unknown, too-long, ended, goes}
-use Rattle.sender.proofs.Records.{sound-facts}
+use Rattle.format.specs.Header.{greatestMessage, fixedBytes}
+use Rattle.answers.specs.Answers.{outputRoom}
+use Rattle.format.specs.Suite.{suiteOf}
+use Rattle.format.specs.declared.suite.Numbered.the-variants.{Known}
+use Rattle.format.specs.declared.suite.Suite.{Suite}
+use Rattle.format.proofs.Suites.{icv-four}
+use Rattle.sender.specs.Protect.{keyDataIn, soundRecord, payloadLimit}
+use Rattle.sender.specs.declared.Keys.{Keys}
+use Rattle.sender.proofs.Outcomes.{refuses, sends, no-room, unsound-record, over, unknown, too-long, ended, goes}
+use Rattle.sender.proofs.Records.{record-facts}
 use Rattle.sender.proofs.protect_by_value.Statement.{statement}
 use Rattle.sender.proofs.protect_by_value.Tie as tie
 
@@ -22,7 +24,7 @@ use Rattle.sender.proofs.protect_by_value.Tie as tie
 abbrev start : tie.Else2 → tie.Start
 start c = c .before .before .before .before .before .before
 
-abbrev keys-of : tie.Else2 → KeyData
+abbrev keys-of : tie.Else2 → Keys
 keys-of c = start c .args .sender .keys
 
 abbrev at-else2 : tie.After-known-told → tie.Else2
@@ -32,7 +34,7 @@ abbrev suite-of : tie.After-known-told → Suite
 suite-of c = c .before .numbered2 .given .0 .0
 
 -- what the tests showed
-room : (c : tie.Else2) → 2048 ≤ length (start c .args .out .now)
+room : (c : tie.Else2) → outputRoom ≤ length (start c .args .out .now)
 room c = c .before .before .if1 .left
 
 sound : (c : tie.Else2) → soundRecord (keys-of c) ≡ true
@@ -45,28 +47,28 @@ known : (c : tie.After-known-told) → Known (suite-of c) ≡ suiteOf (keys-of (
 known c = sym (c .before .numbered2 .given .1) ∙ c .before .before .before .numbered .ensures
 
 keyid-room : (c : tie.Else2) → keys-of c .«keyid_len» ≤ 128
-keyid-room c = sound-facts (keys-of c) (sound c) .keyid-room
+keyid-room c = record-facts (keys-of c) (sound c) .keyid-room
 
-keyid-length : (c : tie.Else2) → length (keyIdOf (keys-of c)) ≡ keys-of c .«keyid_len»
+keyid-length : (c : tie.Else2) → length (keyDataIn (keys-of c) .keyId) ≡ keys-of c .«keyid_len»
 keyid-length c =
     let l : length (keys-of c .keyid) ≡ 128 = search needs in
     length-take-le (keys-of c .«keyid_len») (keys-of c .keyid) (omega (arith, keyid-room c))
 
 -- header and ICV leave room for a payload
-short : (c : tie.After-icv-length) → 9 + keys-of (at-else2 (c .before)) .«keyid_len» + c .icv-length .result ≤ 2048
+short : (c : tie.After-icv-length) → fixedBytes + keys-of (at-else2 (c .before)) .«keyid_len» + c .icv-length .result ≤ greatestMessage
 short c = omega (arith, keyid-room (at-else2 (c .before)), c .icv-length .ensures, icv-four (suite-of (c .before)))
 
 -- what the code takes for the longest payload is what the definition does
 longest : (c : tie.After-icv-length)
-    → 2048 - (9 + keys-of (at-else2 (c .before)) .«keyid_len» + c .icv-length .result) ≡ longestPayload (suite-of (c .before)) (keys-of (at-else2 (c .before)))
+    → greatestMessage - (fixedBytes + keys-of (at-else2 (c .before)) .«keyid_len» + c .icv-length .result) ≡ payloadLimit (suite-of (c .before)) (keys-of (at-else2 (c .before)))
 longest c = rw (keyid-length (at-else2 (c .before)), c .icv-length .ensures)
 
-fits : (c : tie.Else4) → length (start (at-else2 (c .before .before)) .args .payload .now) ≤ longestPayload (suite-of (c .before .before)) (keys-of (at-else2 (c .before .before)))
+fits : (c : tie.Else4) → length (start (at-else2 (c .before .before)) .args .payload .now) ≤ payloadLimit (suite-of (c .before .before)) (keys-of (at-else2 (c .before .before)))
 fits c = rw (longest (c .before)) at (c .if4 .left)
 
 returns-2 : tie.Need-returns-2
 returns-2 c =
-    refuses _ _ _ (unsound _ _ _ (c .before .before .before .if1 .left) (sym (c .before .before .is-sound .ensures) ∙ not-true _ (c .before .if2 .taken))) (c .refuse2 .ensures)
+    refuses _ _ _ (unsound-record _ _ _ (c .before .before .before .if1 .left) (sym (c .before .before .is-sound .ensures) ∙ not-true _ (c .before .if2 .taken))) (c .refuse2 .ensures)
 
 returns-4 : tie.Need-returns-4
 returns-4 c =
@@ -88,8 +90,8 @@ returns-6 c =
     refuses _ _ _ (ended _ _ _ (room e) (sound e) (small (k .before .before .before .before)) (suite-of k) (known k) (fits (c .before .before)) (c .before .if5 .taken))
     (c .refuse6 .ensures)
 
-seal-requires : tie.Need-seal-requires
-seal-requires c κs =
+write-message-requires : tie.Need-write-message-requires
+write-message-requires c κs =
     let i = c .before .before .before in
     let e = at-else2 (i .before) in
     (sound e, omega arith, omega (arith, fits (c .before .before), short i, keyid-length e, i .icv-length .ensures), room e)
@@ -99,7 +101,7 @@ returns-7 c =
     let four = c .before .before .before .before .before in
     let k = four .before .before in
     let e = at-else2 k in
-    let s = c .before .before .seal in
+    let s = c .before .before .write-message in
     sends _ _ _ (suite-of k) _ (s .result)
     (goes _ _ _ (room e) (sound e) (small (k .before .before .before .before)) (suite-of k) (known k) (fits four) (c .before .before .before .before .if5 .left))
     (s .ensures .0) (s .ensures .1)
@@ -110,15 +112,11 @@ protect-by-value-spec =
     (tie.spec
     (λ c κs. search needs)
     (λ c. refuses _ _ _ (no-room _ _ _ (c .before .if1 .taken)) (c .refuse .ensures))
-    (λ c κs. search needs)
-    (λ c κs. search needs)
+    (λ c κs. search needs) (λ c κs. search needs)
     returns-2
     (λ c κs. search needs)
     (λ c. refuses _ _ _ (over _ _ _ (room (c .before .before)) (omega arith)) (c .refuse3 .ensures))
-    (λ c κs. search needs)
-    (λ c. search needs)
-    (λ c. search needs)
-    (λ c κs. search needs)
+    (λ c κs. search needs) (λ c. search needs) (λ c. search needs) (λ c κs. search needs)
     returns-4
     (λ c. omega (arith, keyid-room (at-else2 c)))
     (λ c κs. search needs)
@@ -129,6 +127,6 @@ protect-by-value-spec =
     (λ c κs. search needs)
     returns-6
     (λ c. search needs)
-    seal-requires
+    write-message-requires
     (λ c. search needs)
     returns-7)

@@ -3,7 +3,7 @@
 use mathlib.Core.Bool.{true, false}
 use mathlib.Core.Path.{_≡_, sym, _∙_}
 use borrow.Author.Needs.{needs}
-use Rattle.message.specs.Suite.{enciphers}
+use Rattle.format.specs.Suite.{enciphers}
 use Rattle.message.specs.Sealing.{enciphered}
 use Rattle.message.proofs.sealing.encipher.Statement.{statement}
 use Rattle.message.proofs.sealing.encipher.Tie as tie
@@ -27,12 +27,7 @@ pub encipher-spec : {M : Type 1} → statement M
 encipher-spec =
     tie.close
     (tie.spec
-    (λ c κs. search needs)
-    (λ c κs. search needs)
-    (λ c. search needs)
-    (λ c κs. search needs)
-    (λ c κs. search needs)
-    (λ c. search needs)
+    (λ c κs. search needs) (λ c κs. search needs) (λ c. search needs) (λ c κs. search needs) (λ c κs. search needs) (λ c. search needs)
     returns
     (λ c. search needs)
     returns-2)

@@ -3,7 +3,7 @@ use mathlib.Core.Path.{_≡_, _∙_}
 use native.Mathlib.Omega.{arith}
 use borrow.Author.Needs.{needs}
 use Rattle.message.specs.Sealing.{icvOf}
-use Rattle.message.proofs.Suites.{icv-four}
+use Rattle.format.proofs.Suites.{icv-four}
 use Rattle.message.proofs.sealing.icv.Statement.{statement}
 use Rattle.message.proofs.sealing.icv.Tie as tie
 
@@ -18,9 +18,7 @@ pub icv-spec : {M : Type 1} → statement M
 icv-spec =
     tie.close
     (tie.spec
-    (λ c κs. search needs)
-    (λ c κs. search needs)
-    (λ c κs. search needs)
+    (λ c κs. search needs) (λ c κs. search needs) (λ c κs. search needs)
     (λ c. omega (arith, short c))
     (λ c. search needs)
     (λ c. omega (arith, short c))

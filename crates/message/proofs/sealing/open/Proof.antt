@@ -3,10 +3,10 @@
 use native.Mathlib.Omega.{arith}
 use borrow.Author.Needs.{needs}
 use lib.ListN.{length-take, length-drop}
-use Rattle.message.specs.Sealing.{opened}
+use Rattle.message.specs.Sealing.{openedUnder}
 use Rattle.message.proofs.Opening.{Compared, same-right, other-wrong}
-use Rattle.message.proofs.Room.{Room, read-room}
-use Rattle.message.proofs.Suites.{icv-four}
+use Rattle.format.proofs.Room.{Room, read-room}
+use Rattle.format.proofs.Suites.{icv-four}
 use Rattle.message.proofs.sealing.open.Statement.{statement}
 use Rattle.message.proofs.sealing.open.Tie as tie
 
@@ -45,7 +45,7 @@ encipher-requires c κs =
     (k .0, k .1, search needs, simp (length-take, length-drop) (omega arith), simp (length-take, length-drop) (omega arith))
 
 returns-2 : tie.Need-returns-2
-unfolding opened
+unfolding openedUnder
 returns-2 c =
     let read = c .before .before .before .before .before .before .before in
     let l = read .before .before .before .before .before .before in
@@ -58,15 +58,12 @@ pub open-spec : {M : Type 1} → statement M
 open-spec =
     tie.close
     (tie.spec
-    (λ c κs. search needs)
-    (λ c κs. search needs)
-    (λ c κs. search needs)
+    (λ c κs. search needs) (λ c κs. search needs) (λ c κs. search needs)
     (λ c. let r = room c in omega arith)
     (λ c κs. search needs)
     (λ c. let r = room (c .before) in omega arith)
     (λ c. simp length-take (omega arith))
-    (λ c κs. search needs)
-    (λ c κs. search needs)
+    (λ c κs. search needs) (λ c κs. search needs)
     read-requires
     returns
     (λ c. let r = room (c .before .before .before .before .before .before .before .before) in omega arith)

@@ -39,12 +39,9 @@ pub last-block-spec : {M : Type 1} → statement M
 last-block-spec =
     tie.close
     (tie.spec
-    (λ c. search needs)
-    (λ c κs. search needs)
+    (λ c. search needs) (λ c κs. search needs)
     returns
     (λ c. omega (arith, fits c))
     (λ c. omega (arith, fits c))
-    (λ c. search needs)
-    (λ c. search needs)
-    (λ c. search needs)
+    (λ c. search needs) (λ c. search needs) (λ c. search needs)
     returns-2)

@@ -2,23 +2,23 @@
 use mathlib.Core.Path.{sym, _∙_}
 use native.Mathlib.Omega.{arith}
 use borrow.Author.Needs.{needs}
-use Rattle.window.proofs.Marks as marks
+use Rattle.window.proofs.Marks.{marked-above, marked-within, says-admissible, says-below, says-marked}
 use Rattle.window.proofs.Window.admissible.Statement.{statement}
 use Rattle.window.proofs.Window.admissible.Tie as tie
 
 returns : tie.Need-returns
-returns c = marks.says-below _ _ (omega arith)
+returns c = says-below _ _ (omega arith)
 
 returns-2 : tie.Need-returns-2
-returns-2 c = marks.says-admissible _ _ (omega arith) (marks.marked-above _ _ (c .if2 .taken))
+returns-2 c = says-admissible _ _ (omega arith) (marked-above _ _ (c .if2 .taken))
 
 returns-3 : tie.Need-returns-3
 returns-3 c =
-    marks.says-marked _ _ (omega arith) (marks.marked-within _ _ (omega arith) ∙ sym (c .before .has-bit .ensures) ∙ c .if3 .taken)
+    says-marked _ _ (omega arith) (marked-within _ _ (omega arith) ∙ sym (c .before .has-bit .ensures) ∙ c .if3 .taken)
 
 returns-4 : tie.Need-returns-4
 returns-4 c =
-    marks.says-admissible _ _ (omega arith) (marks.marked-within _ _ (omega arith) ∙ sym (c .before .has-bit .ensures) ∙ c .if3 .left)
+    says-admissible _ _ (omega arith) (marked-within _ _ (omega arith) ∙ sym (c .before .has-bit .ensures) ∙ c .if3 .left)
 
 pub admissible-spec : {M : Type 1} → statement M
 admissible-spec =

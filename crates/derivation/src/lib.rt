@@ -1,0 +1,68 @@
+// Derived keys: what a base key, the source, the suite and SeqNum make.
+ghost use mathlib.Core.List.{_∷_};
+ghost use mathlib.Core.Path.{_≡_};
+ghost use Prim.Native.Nat.{_+_, _<_, _≤_};
+ghost use lib.ListN.{length, drop};
+ghost use Rattle.octets.specs.Octets.{put};
+ghost use Rattle.magma.specs.Magma.{encrypted};
+ghost use Rattle.modes.specs.Modes.{firstSubkey, secondSubkey, checkWith};
+ghost use Rattle.derivation.specs.Derivation.{dataAfter, blockWords, keyFrom};
+use format::suite::Suite;
+use modes::Subkeys;
+
+// The blocks that make the check key and the cipher key start at these numbers; a key has four.
+pub const CHECK: u8 = 1;
+
+pub const CIPHER: u8 = 5;
+// A block's data with the longest source.
+const LONGEST: usize = 50;
+
+// The key that the four blocks from `first` on make. The subkeys are the base key's.
+pub fn derived_key(
+    base: &[u32; 8],
+    subkeys: Subkeys,
+    suite: Suite,
+    source: &[u8],
+    seqnum: u64,
+    first: u8,
+) -> [u32; 8]
+    requires { ⌜ (subkeys .first ≡ firstSubkey 8 0x1b (encrypted (now base))) × (subkeys .second ≡ secondSubkey 8 0x1b (encrypted (now base))) × (length (now source) ≤ 32) × (first < 6) ⌝ }
+    ensures { λ r. ⌜ r ≡ keyFrom (now (base .entry)) suite (now (source .entry)) seqnum first ⌝ }
+{
+    let mut data = [0u8; LONGEST];
+    write_data(suite, source, seqnum, &mut data);
+    key_of_blocks(base, subkeys, &mut data[..18 + source.len()], first)
+}
+
+// The data of a block, but for its number in the first byte.
+fn write_data(suite: Suite, source: &[u8], seqnum: u64, out: &mut [u8])
+    requires { ⌜ (length (now source) ≤ 32) × (18 + length (now source) ≤ length (now out)) ⌝ }
+    ensures { λ _. ⌜ now (out .exit) ≡ put (now (out .entry)) 1 (dataAfter suite (now (source .entry)) seqnum) ⌝ }
+{
+    let label = suite.label();
+    octets::copy(&label, out, 1);
+    octets::write(out, 7, 1, 6);
+    octets::write(out, 8, 5, seqnum / 8192);
+    octets::copy(source, out, 13);
+    let at = 13 + source.len();
+    octets::write(out, at, 1, suite.number() as u64);
+    octets::write(out, at + 1, 2, (6 + source.len()) as u64);
+    octets::write(out, at + 3, 2, suite.output_bits());
+}
+
+// The eight words of four blocks, each the check value of the data with the block's number in its first byte.
+fn key_of_blocks(base: &[u32; 8], subkeys: Subkeys, bytes: &mut [u8], first: u8) -> [u32; 8]
+    requires { ⌜ (1 ≤ length (now bytes)) × (first < 6) ⌝ }
+    ensures { λ r. ⌜ r ≡ blockWords (λ i. checkWith 8 (encrypted (now (base .entry))) (subkeys .first) (subkeys .second) (i ∷ drop 1 (now (bytes .entry)))) first 4 ⌝ }
+{
+    let mut words = [0u32; 8];
+    let mut k: usize = 0;
+    while k < 4 {
+        bytes[0] = first + (k as u8);
+        let block = modes::check_with(base, subkeys, bytes);
+        words[2 * k] = (block / 4294967296) as u32;
+        words[2 * k + 1] = (block % 4294967296) as u32;
+        k += 1;
+    }
+    words
+}

@@ -1,0 +1,118 @@
+-- A fresh entry's slot: its length, what stands in it where, and when such a slot is undamaged.
+-- Assumes nothing.
+use mathlib.Core.Path.{_≡_, ap, _∙_}
+use mathlib.Core.Bool.{true}
+use mathlib.Core.List.{List, [], _∷_, _++_, map, append-assoc, append-nil}
+use Prim.Native.Nat.{ℕ, _-_, _^_, _≤_, _<_}
+use native.Mathlib.Omega.{arith}
+use lib.Dec.{lit<, lit≤}
+use lib.ListN.{length, getD, replicate, length-append, length-replicate}
+use Rattle.window.specs.Window.{Frame}
+use Rattle.format.specs.KeyData.{KeyData, soundOf}
+use Rattle.octets.specs.Octets.{bytesOf}
+use Rattle.octets.proofs.BigEndian.{length-bytes}
+use Rattle.format.proofs.Soundness.{Sound, sound-test, key-data-is}
+use Rattle.window.specs.Entry.{freshEntry}
+use Rattle.window.proofs.Entries.{UndamagedEntry, entry-test}
+use Rattle.slots.specs.Table.{flagOf, csOf, keyIdLengthOf, keyIdOf, sourceLengthOf, sourceOf, keyOf, entryOf, slotLength, occupiedAt, startAt, keyIdRoom, sourceRoom, keyDataOf}
+use Rattle.slots.specs.Record.{undamaged}
+use Rattle.entries.specs.Fresh.{padded, prefixed, headOf, freshSlot}
+use Rattle.entries.proofs.Bounds.{keyid-most, suite-byte}
+use Rattle.numbers.proofs.Tests.{and-both}
+use Rattle.slots.proofs.Settled.{SameKeys}
+use Rattle.slots.proofs.Standing.{Lies, joined, ahead, lies, starts-with, piece, number, byte, zeros}
+use Rattle.entries.proofs.Stretches.{length-padded}
+
+pub length-head : (flag suite : ℕ) → length (headOf flag suite) ≡ 4
+length-head flag suite = simp (length-append, length-bytes)
+
+-- the parts of a slot, but for window and totals
+pub record Parts (k : KeyData) (s : List ℕ) : Type 0 where
+  pub first : getD s occupiedAt 0 ≡ 1
+  pub flag-is : flagOf s ≡ k .flag
+  pub cs-is : csOf s ≡ k .suite
+  pub keyid-length : keyIdLengthOf s ≡ length (k .keyId)
+  pub keyid-is : keyIdOf s ≡ k .keyId
+  pub source-length : sourceLengthOf s ≡ length (k .source)
+  pub source-is : sourceOf s ≡ k .source
+  pub key-is : keyOf s ≡ k .key
+
+pub parts-keydata : {k : KeyData} {s : List ℕ} → Parts k s → keyDataOf s ≡ k
+parts-keydata p = key-data-is (p .flag-is) (p .keyid-is) (p .source-is) (p .cs-is) (p .key-is)
+
+pub same-parts : {k : KeyData} {s other : List ℕ} → SameKeys s other → Parts k s → Parts k other
+same-parts same p = record {
+  first = same .first ∙ p .first;
+  flag-is = same .flag ∙ p .flag-is;
+  cs-is = same .cs ∙ p .cs-is;
+  keyid-length = same .keyid-length ∙ p .keyid-length;
+  keyid-is = same .keyid ∙ p .keyid-is;
+  source-length = same .source-length ∙ p .source-length;
+  source-is = same .source ∙ p .source-is;
+  key-is = same .key ∙ p .key-is;
+}
+
+-- of key data that is sound, with a KeyId of bytes
+module _ {k : KeyData} (sound : Sound k) (b : getD (k .keyId) 0 0 < 256) (f : Frame) where
+  -- all but the zeros at the end
+  abbrev filled : List ℕ
+  filled = headOf (k .flag) (k .suite) ++ prefixed keyIdRoom (k .keyId) ++ prefixed sourceRoom (k .source) ++ k .key ++ bytesOf 8 (f .size)
+
+  length-filled : length filled ≡ startAt
+  length-filled =
+      simp (length-append, length-bytes, length-replicate, sound .key-length) (omega (arith, keyid-most sound b, sound .source-most))
+
+  pub length-fresh : length (freshSlot k f) ≡ slotLength
+  unfolding freshSlot
+  length-fresh = length-padded slotLength filled (rw length-filled (lit≤ tt))
+
+  -- the stretches that it is made of, and their lengths
+  abbrev stretches : List (List ℕ)
+  stretches =
+      bytesOf 1 1 ∷ bytesOf 1 (k .flag) ∷ bytesOf 1 (k .suite) ∷ bytesOf 1 0
+      ∷ bytesOf 1 (length (k .keyId)) ∷ padded keyIdRoom (k .keyId) ∷ bytesOf 1 (length (k .source)) ∷ padded sourceRoom (k .source)
+      ∷ k .key ∷ bytesOf 8 (f .size) ∷ replicate 82 0 ∷ []
+
+  abbrev lengths : List ℕ
+  lengths = 1 ∷ 1 ∷ 1 ∷ 1 ∷ 1 ∷ 128 ∷ 1 ∷ 32 ∷ 32 ∷ 8 ∷ 82 ∷ []
+
+  in-stretches : freshSlot k f ≡ joined stretches
+  unfolding freshSlot
+  in-stretches = ap (λ (n : ℕ). filled ++ replicate (slotLength - n) 0) length-filled ∙ simp (append-assoc, append-nil)
+
+  of-lengths : map length stretches ≡ lengths
+  of-lengths =
+      simp (length-bytes, length-padded keyIdRoom (k .keyId) (keyid-most sound b), length-padded sourceRoom (k .source) (sound .source-most), sound .key-length)
+
+  there : (j : ℕ) → Lies (freshSlot k f) (ahead lengths j) (getD stretches j [])
+  there j = rw in-stretches (lies stretches lengths of-lengths j)
+
+  pub fresh-parts : Parts k (freshSlot k f)
+  fresh-parts =
+      let most = keyid-most sound b in
+      let keyid : keyIdLengthOf (freshSlot k f) ≡ length (k .keyId) = byte (length (k .keyId)) (there 4) (omega arith) in
+      let source : sourceLengthOf (freshSlot k f) ≡ length (k .source) = byte (length (k .source)) (there 6) (omega (arith, sound .source-most)) in record {
+        first = byte 1 (there 0) (lit< tt);
+        flag-is = byte (k .flag) (there 1) (omega (arith, sound .flag-small));
+        cs-is = byte (k .suite) (there 2) (suite-byte sound);
+        keyid-length = keyid;
+        keyid-is = rw keyid (piece (starts-with (k .keyId) (replicate (keyIdRoom - length (k .keyId)) 0) (there 5)));
+        source-length = source;
+        source-is = rw source (piece (starts-with (k .source) (replicate (sourceRoom - length (k .source)) 0) (there 7)));
+        key-is = rw (sound .key-length) at (piece (there 8));
+      }
+
+  pub fresh-entry : f .size < 2 ^ 64 → entryOf (freshSlot k f) ≡ freshEntry f
+  fresh-entry h =
+      rw (
+        number 8 (f .size) (there 9) h,
+        zeros 82 (there 10) 8 8 (lit≤ tt),
+        zeros 82 (there 10) 16 32 (lit≤ tt),
+        zeros 82 (there 10) 48 8 (lit≤ tt),
+        zeros 82 (there 10) 56 8 (lit≤ tt),
+      )
+
+-- a slot with sound key data is undamaged where its entry is
+pub parts-undamaged : {k : KeyData} {s : List ℕ} → Sound k → Parts k s → UndamagedEntry (entryOf s) → undamaged s ≡ true
+unfolding undamaged
+parts-undamaged {k} {s} sound p w = and-both _ _ (ap soundOf (parts-keydata p) ∙ sound-test k sound) (entry-test (entryOf s) w)

@@ -1,0 +1,38 @@
+-- What install comes to, by the test that leads there.
+-- Assumes nothing.
+use mathlib.Core.Path.{_≡_, ap, _∙_}
+use mathlib.Core.Bool.{true, false, _&&_, not-eq-not}
+use mathlib.Core.List.{List}
+use Prim.Native.Nat.{ℕ}
+use Rattle.window.specs.Window.{Frame, soundFrame}
+use Rattle.numbers.proofs.Tests.{and-left, and-right, and-both}
+use Rattle.answers.specs.Answers.{refused}
+use Rattle.format.specs.KeyData.{soundOf, KeyData}
+use Rattle.lookup.specs.Lookup.{leadsTo, firstFree}
+use Rattle.entries.specs.Fresh.{freshSlot}
+use Rattle.entries.specs.Install.{placed, unlessTwin, installed}
+use Rattle.lookup.specs.declared.Found.the-variants.{Nothing}
+
+-- what 13 refuses is not there
+pub record Fair (k : KeyData) (f : Frame) : Type 0 where
+  pub sound : soundOf k ≡ true
+  pub framed : soundFrame f ≡ true
+
+-- the test of 13, as facts
+pub fair-facts : (k : KeyData) (f : Frame) → (soundOf k && soundFrame f) ≡ true → Fair k f
+fair-facts k f h = record { sound = and-left (soundOf k) (soundFrame f) h; framed = and-right (soundOf k) (soundFrame f) h }
+
+module _ (t : List ℕ) (k : KeyData) (f : Frame) where
+  pub installs-unfair : (soundOf k && soundFrame f) ≡ false → installed t k f ≡ record { answer = refused 13; table = t }
+  unfolding installed
+  installs-unfair e = rw e
+
+  pub installs-not : (Fair k f → ⊥) → installed t k f ≡ record { answer = refused 13; table = t }
+  installs-not bad = installs-unfair (not-eq-not .0 (λ h. bad (fair-facts k f h)))
+
+  pub installs : Fair k f → installed t k f ≡ unlessTwin t (freshSlot k f) (leadsTo t (k .flag) (k .keyId) (k .source))
+  unfolding installed
+  installs fair = rw (and-both _ _ (fair .sound) (fair .framed))
+
+  pub installs-alone : Fair k f → leadsTo t (k .flag) (k .keyId) (k .source) ≡ Nothing → installed t k f ≡ placed t (freshSlot k f) (firstFree t)
+  installs-alone fair none = installs fair ∙ ap (unlessTwin t (freshSlot k f)) none

@@ -1,0 +1,26 @@
+-- A fresh entry's slot (01, "Replies": "so do an installed entry's places past its KeyId and identifier" hold zeros only; "starts fresh").
+use mathlib.Core.List.{List, _++_}
+use Prim.Native.Nat.{ℕ, _-_}
+use lib.ListN.{length, replicate}
+use Rattle.octets.specs.Octets.{bytesOf}
+use Rattle.format.specs.KeyData.{KeyData}
+use Rattle.window.specs.Window.{Frame}
+use Rattle.slots.specs.Table.{slotLength, keyIdRoom, sourceRoom}
+
+-- bytes with zeros behind them, n in all
+abbrev pub padded : ℕ → List ℕ → List ℕ
+padded n bytes = bytes ++ replicate (n - length bytes) 0
+
+-- bytes behind their length, with zeros behind them up to their room
+abbrev pub prefixed : ℕ → List ℕ → List ℕ
+prefixed room bytes = bytesOf 1 (length bytes) ++ padded room bytes
+
+-- the first bytes of an occupied slot: occupied, flag, suite, and a place that is kept
+abbrev pub headOf : ℕ → ℕ → List ℕ
+headOf flag suite = bytesOf 1 1 ++ bytesOf 1 flag ++ bytesOf 1 suite ++ bytesOf 1 0
+
+-- the key data, what is settled of the window, and zeros
+unfoldable pub freshSlot : KeyData → Frame → List ℕ
+freshSlot k f =
+    padded slotLength
+    (headOf (k .flag) (k .suite) ++ prefixed keyIdRoom (k .keyId) ++ prefixed sourceRoom (k .source) ++ k .key ++ bytesOf 8 (f .size))

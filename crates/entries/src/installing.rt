@@ -1,0 +1,72 @@
+// Entries put into the table and taken out.
+ghost use mathlib.Core.Path.{_≡_};
+ghost use lib.ListN.{length};
+ghost use Rattle.format.specs.KeyData.{keyed};
+ghost use Rattle.slots.specs.Table.{tableLength};
+ghost use Rattle.entries.specs.Install.{doneAt, installed, removed};
+use crate::filling;
+use answers::Answer;
+use format::key_data;
+use format::key_data::Terms;
+use lookup::Found;
+use slots::layout;
+
+// Replies 13, 14 and 15 in that order; else a fresh entry in the lowest free slot.
+pub(crate) fn install_in(
+    table: &mut [u8],
+    terms: Terms,
+    keyid: &[u8],
+    source: &[u8],
+    key: &[u8],
+    size: u64,
+) -> Answer
+    requires { ⌜ length (now table) ≡ tableLength ⌝ }
+    ensures { λ r. ⌜ r ≡ installed (now (table .entry)) (keyed terms (now (keyid .entry)) (now (source .entry)) (now (key .entry))) (record { size = size }) .answer ⌝ }
+    ensures { λ r. ⌜ now (table .exit) ≡ installed (now (table .entry)) (keyed terms (now (keyid .entry)) (now (source .entry)) (now (key .entry))) (record { size = size }) .table ⌝ }
+{
+    if !key_data::sound(terms, keyid, source, key) {
+        return answers::refuse(answers::UNSOUND);
+    }
+    if !window::sound_frame(size) {
+        return answers::refuse(answers::UNSOUND);
+    }
+    let twin = lookup::leads_to(table, terms.flag, keyid, source);
+    let Found::Nothing = twin else {
+        return answers::refuse(answers::TWIN);
+    };
+    let free = lookup::first_free(table);
+    let Found::At(slot) = free else {
+        return answers::refuse(answers::FULL);
+    };
+    filling::write_entry(table, slot, terms, keyid, source, key, size);
+    done_at(slot)
+}
+
+// Reply 16, or the slot cleared.
+pub(crate) fn remove_in(table: &mut [u8], slot: usize) -> Answer
+    requires { ⌜ length (now table) ≡ tableLength ⌝ }
+    ensures { λ r. ⌜ r ≡ removed (now (table .entry)) slot .answer ⌝ }
+    ensures { λ r. ⌜ now (table .exit) ≡ removed (now (table .entry)) slot .table ⌝ }
+{
+    if layout::SLOTS <= slot {
+        return answers::refuse(answers::NO_SLOT);
+    }
+    let at = layout::SLOT * slot;
+    if table[at] == 0 {
+        return answers::refuse(answers::NO_SLOT);
+    }
+    octets::clear(table, at, layout::SLOT);
+    done_at(slot)
+}
+
+// Done at a slot.
+fn done_at(slot: usize) -> Answer
+    ensures { λ r. ⌜ r ≡ doneAt slot ⌝ }
+{
+    Answer {
+        reply: answers::DONE,
+        length: 0,
+        slot: slot,
+        seqnum: 0,
+    }
+}

@@ -1,0 +1,36 @@
+// Entries put into the table that a caller lends, and taken out of it.
+ghost use mathlib.Core.Path.{_≡_};
+ghost use Rattle.format.specs.KeyData.{handedIn};
+ghost use Rattle.entries.specs.Install.{installed, removed};
+use answers::Answer;
+use format::key_data::Terms;
+use slots::layout::TABLE;
+
+mod filling; // filling.rt: a fresh entry's slot, written
+mod installing; // installing.rt: entries put into the table and taken out
+
+// A fresh entry takes the lowest free slot. Refuses with 13 (key data unsound), 14 (an occupied slot has the same flag and KeyId and, for
+// flag 1, source) and 15 (no free slot), in that order.
+pub fn install(
+    table: &mut [u8; TABLE],
+    flag: u8,
+    keyid: &[u8],
+    source: &[u8],
+    suite: u8,
+    key: &[u8],
+    size: u64,
+) -> Answer
+    ensures { λ r. ⌜ r ≡ installed (now (table .entry)) (handedIn flag (now (keyid .entry)) (now (source .entry)) suite (now (key .entry))) (record { size = size }) .answer ⌝ }
+    ensures { λ r. ⌜ now (table .exit) ≡ installed (now (table .entry)) (handedIn flag (now (keyid .entry)) (now (source .entry)) suite (now (key .entry))) (record { size = size }) .table ⌝ }
+{
+    let terms = Terms { flag, suite };
+    installing::install_in(table, terms, keyid, source, key, size)
+}
+
+// The slot is freed and holds zeros only. Refuses with 16 (slot over 15, or free).
+pub fn remove(table: &mut [u8; TABLE], slot: usize) -> Answer
+    ensures { λ r. ⌜ r ≡ removed (now (table .entry)) slot .answer ⌝ }
+    ensures { λ r. ⌜ now (table .exit) ≡ removed (now (table .entry)) slot .table ⌝ }
+{
+    installing::remove_in(table, slot)
+}

@@ -1,0 +1,4 @@
+pub mod KeyId
+pub mod Suite
+pub mod KeyData
+pub mod Header

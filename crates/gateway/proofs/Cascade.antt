@@ -1,0 +1,112 @@
+-- What holds of every refusal and of what is handed out holds of any arrival; so an arrival leaves a table as long as it was.
+-- Assumes nothing.
+use mathlib.Core.Path.{_≡_, refl, ap, _∙_}
+use mathlib.Core.Bool.{true, cond}
+use mathlib.Core.List.{List}
+use Prim.Native.Nat.{ℕ, _≤_}
+use native.Mathlib.Omega.{arith}
+use lib.Dec.{eqb, ltb, lit≤}
+use lib.ListN.{length}
+use Rattle.numbers.proofs.Tests.{either}
+use Rattle.answers.specs.Answers.{outputRoom}
+use Rattle.window.specs.Window.{verdictOf}
+use Rattle.window.specs.declared.Verdict.{Verdict}
+use Rattle.window.specs.declared.Verdict.the-variants.{Below, Marked, Admissible}
+use Rattle.format.specs.Header.{readOf, keyIdBytes, payloadLength}
+use Rattle.message.specs.Sealing.{right}
+use Rattle.format.specs.Suite.{numberOf}
+use Rattle.format.specs.declared.header.Header.{Header}
+use Rattle.format.specs.declared.header.Parsed.{Parsed}
+use Rattle.format.specs.declared.header.Parsed.the-variants.{Read, BadLength, BadVersion, BadSuite, TooShort}
+use Rattle.window.specs.Entry.{taken}
+use Rattle.lookup.specs.Lookup.{leadsTo}
+use Rattle.lookup.proofs.Firsts.{leads-small}
+use Rattle.slots.proofs.Replacing.{length-replaced}
+use Rattle.slots.proofs.Settled.{settledSlot, length-slot, as-replaced}
+use Rattle.gateway.specs.Receive.{Received, received, parsed, led, arrived, judged, checked, handedOut, kept}
+use Rattle.slots.specs.Record.{undamaged}
+use Rattle.slots.specs.Table.{slotOf, entryOf, csOf, windowOf, tableLength, keyDataOf}
+use Rattle.lookup.specs.declared.Found.{Found}
+use Rattle.lookup.specs.declared.Found.the-variants.{At, Nothing}
+
+module _ (P : Received → Type 0) (t out : List ℕ) where
+  -- at a slot
+  module _ (i : ℕ) (h : Header) (m : List ℕ) (done : P (handedOut t i h m out)) where
+    by-verdict : ((n : ℕ) → 8 ≤ n → P (kept t out n)) → (v : Verdict) → P (judged v t i h m out)
+    unfolding checked
+    by-verdict refused Below = refused 9 (lit≤ tt)
+    by-verdict refused Marked = refused 10 (lit≤ tt)
+    by-verdict refused Admissible =
+        either P (right h (keyDataOf (slotOf t i)) m) (handedOut t i h m out) (kept t out 11) (λ _. done) (λ _. refused 11 (lit≤ tt))
+
+    -- that is undamaged
+    pub of-undamaged : ((n : ℕ) → 8 ≤ n → P (kept t out n))
+        → P (cond (eqb (csOf (slotOf t i)) (numberOf (h .suite))) (judged (verdictOf (windowOf (slotOf t i)) (h .seqnum)) t i h m out) (kept t out 8))
+    of-undamaged refused =
+        either P (eqb (csOf (slotOf t i)) (numberOf (h .suite))) (judged (verdictOf (windowOf (slotOf t i)) (h .seqnum)) t i h m out) (kept t out 8)
+        (λ _. by-verdict refused (verdictOf (windowOf (slotOf t i)) (h .seqnum))) (λ _. refused 8 (lit≤ tt))
+
+    -- or not
+    pub of-arrived : ((n : ℕ) → 1 ≤ n → P (kept t out n)) → P (arrived t i h m out)
+    unfolding arrived
+    of-arrived refused = either P (undamaged (slotOf t i)) _ (kept t out 7) (λ _. of-undamaged (λ n l. refused n (omega arith))) (λ _. refused 7 (lit≤ tt))
+
+  module _ (refused : (n : ℕ) → 1 ≤ n → P (kept t out n)) (done : (i : ℕ) (h : Header) (m : List ℕ) → P (handedOut t i h m out)) where
+    of-led : (f : Found) (h : Header) (m : List ℕ) → P (led f t h m out)
+    of-led Nothing h m = refused 6 (lit≤ tt)
+    of-led (At i) h m = of-arrived i h m (done i h m) refused
+
+    of-parsed : (p : Parsed) (m source : List ℕ) → P (parsed p t m source out)
+    of-parsed (Read h) m source = of-led (leadsTo t (h .flag) (keyIdBytes h m) source) h m
+    of-parsed BadLength m source = refused 2 (lit≤ tt)
+    of-parsed BadVersion m source = refused 3 (lit≤ tt)
+    of-parsed BadSuite m source = refused 4 (lit≤ tt)
+    of-parsed TooShort m source = refused 5 (lit≤ tt)
+
+    pub of-received : (m source : List ℕ) → P (received t m source out)
+    unfolding received
+    of-received m source = either P (ltb (length out) outputRoom) (kept t out 1) _ (λ _. refused 1 (lit≤ tt)) (λ _. of-parsed (readOf m) m source)
+
+-- an arrival at an undamaged record is not answered 7
+pub record NotSeven (r : Received) : Type 0 where
+  pub other : r .answer .reply ≡ 7 → ⊥
+
+pub never-seven : (t : List ℕ) (i : ℕ) (h : Header) (m out : List ℕ) → undamaged (slotOf t i) ≡ true → NotSeven (arrived t i h m out)
+unfolding arrived handedOut
+never-seven t i h m out unharmed =
+    rw unharmed (of-undamaged NotSeven t out i h m (record { other = λ z. omega arith }) (λ n least. record { other = λ z. omega arith }))
+
+-- ---- the table stays as long as it was
+
+record Long (r : Received) : Type 0 where
+  is : length (r .table) ≡ tableLength
+
+module _ (t : List ℕ) (long : length t ≡ tableLength) where
+  refused : (out : List ℕ) (n : ℕ) → Long (kept t out n)
+  refused out n = record { is = long }
+
+  done : (h : Header) (m source out : List ℕ) (i : ℕ) → leadsTo t (h .flag) (keyIdBytes h m) source ≡ At i → Long (handedOut t i h m out)
+  unfolding handedOut
+  done h m source out i l =
+      let small = leads-small t i (h .flag) (keyIdBytes h m) source l in
+      let e = taken (entryOf (slotOf t i)) (h .seqnum) (payloadLength h m) in
+      record { is = ap length (as-replaced t i e long small) ∙ length-replaced t i (settledSlot t i e long small) long small (length-slot t i e long small) }
+
+  by-slot : (h : Header) (m source out : List ℕ) (f : Found) → leadsTo t (h .flag) (keyIdBytes h m) source ≡ f → Long (led f t h m out)
+  by-slot h m source out Nothing l = refused out 6
+  by-slot h m source out (At i) l = of-arrived Long t out i h m (done h m source out i l) (λ n some. refused out n)
+
+  by-header : (m source out : List ℕ) (p : Parsed) → Long (parsed p t m source out)
+  by-header m source out (Read h) = by-slot h m source out (leadsTo t (h .flag) (keyIdBytes h m) source) refl
+  by-header m source out BadLength = refused out 2
+  by-header m source out BadVersion = refused out 3
+  by-header m source out BadSuite = refused out 4
+  by-header m source out TooShort = refused out 5
+
+  long-received : (m source out : List ℕ) → Long (received t m source out)
+  unfolding received
+  long-received m source out =
+      either Long (ltb (length out) outputRoom) (kept t out 1) (parsed (readOf m) t m source out) (λ _. refused out 1) (λ _. by-header m source out (readOf m))
+
+  pub received-length : (m source out : List ℕ) → length (received t m source out .table) ≡ tableLength
+  received-length m source out = long-received m source out .is

@@ -1,0 +1,117 @@
+-- What a listing comes to: each refusal by its own test, the lines of an entry, and that they fit the output.
+-- Assumes nothing.
+use mathlib.Core.Path.{_≡_, refl, sym, ap, _∙_}
+use mathlib.Core.Bool.{true, false, _&&_, and-false}
+use mathlib.Core.List.{List}
+use Prim.Native.Nat.{ℕ, _+_, _-_, _*_, _≤_, _<_}
+use native.Mathlib.Nat.{add-zero}
+use native.Mathlib.Omega.{arith}
+use borrow.Author.Tests.{lt-ltb, le-ltb, ltb-false, eq-eqb, ne-eqb}
+use lib.Dec.{ltb}
+use lib.ListN.{length, getD, take, drop, length-append, length-take, length-drop}
+use Rattle.octets.specs.Octets.{bytesOf, part, put}
+use Rattle.numbers.proofs.Tests.{either}
+use Rattle.octets.proofs.BigEndian.{length-bytes}
+use Rattle.answers.specs.Answers.{refused, outputRoom}
+use Rattle.answers.specs.declared.Answer.{Answer}
+use Rattle.slots.specs.Table.{slotOf, occupied, flagOf, csOf, keyIdLengthOf, keyIdOf, sourceLengthOf, sourceOf, entryOf, slotLength, slotCount, occupiedAt, keyIdAt, sourceAt}
+use Rattle.slots.specs.Record.{undamaged}
+use Rattle.listing.specs.Listing.{namedLines, termLines, movedLines, listingOf, Listed, listed}
+use Rattle.text.proofs.Decimals.{length-decimal}
+use Rattle.text.proofs.Hex.{length-hex}
+use Rattle.slots.proofs.Slots.{slot-lent, slot-byte}
+
+-- the bytes of a slot as they are lent
+abbrev lent : List ℕ → ℕ → List ℕ
+lent t i = take (slotLength * i + slotLength - slotLength * i) (drop (slotLength * i) t)
+
+-- an answer and an output are what a listing comes to
+abbrev Comes : List ℕ → ℕ → List ℕ → Answer → List ℕ → Type 0
+Comes t i out r o = (r ≡ listed t i out .answer) × (o ≡ listed t i out .out)
+
+module _ (t : List ℕ) (i : ℕ) (out : List ℕ) where
+  pub little-room : {r : Answer} → length out < outputRoom → r ≡ refused 1 → Comes t i out r out
+  unfolding listed
+  little-room h e = rw (lt-ltb (length out) outputRoom h) (e, refl)
+
+  module _ (room : outputRoom ≤ length out) where
+    pub no-slot : {r : Answer} → slotCount ≤ i → r ≡ refused 16 → Comes t i out r out
+    unfolding listed
+    no-slot h e = rw (le-ltb (length out) outputRoom room, le-ltb i slotCount h) (e, refl)
+
+    module _ (small : i < slotCount) where
+      first : getD (slotOf t i) occupiedAt 0 ≡ getD t (slotLength * i) 0
+      first = slot-byte t i occupiedAt (omega arith) ∙ rw add-zero
+
+      pub free-slot : {r : Answer} → getD t (slotLength * i) 0 ≡ 0 → r ≡ refused 16 → Comes t i out r out
+      unfolding listed
+      free-slot h e = rw (le-ltb (length out) outputRoom room, eq-eqb (getD (slotOf t i) occupiedAt 0) 0 (first ∙ h), and-false) (e, refl)
+
+      module _ (taken : getD t (slotLength * i) 0 ≡ 0 → ⊥) where
+        busy : getD (slotOf t i) occupiedAt 0 ≡ 0 → ⊥
+        busy z = taken (sym first ∙ z)
+
+        pub listing-damaged : {r : Answer} → undamaged (lent t i) ≡ false → r ≡ refused 7 → Comes t i out r out
+        unfolding listed
+        listing-damaged u e =
+            rw (le-ltb (length out) outputRoom room, lt-ltb i slotCount small, ne-eqb (getD (slotOf t i) occupiedAt 0) 0 busy, rw (slot-lent t i) at u) (e, refl)
+
+        pub all-written : {o : List ℕ} {e : ℕ} → undamaged (lent t i) ≡ true → e ≡ length (listingOf i (lent t i)) → o ≡ put out 0 (listingOf i (lent t i))
+            → Comes t i out (record { reply = 0; length = e; slot = i; seqnum = 0 }) o
+        unfolding listed
+        all-written {o} {e} u n w =
+            rw (le-ltb (length out) outputRoom room, lt-ltb i slotCount small, ne-eqb (getD (slotOf t i) occupiedAt 0) 0 busy, rw (slot-lent t i) at u)
+            (ap (λ (m : ℕ). record { reply = 0; length = m; slot = i; seqnum = 0 }) (rw (slot-lent t i) at n), rw (slot-lent t i) at w)
+
+-- ---- a listing fits
+
+part-within : (at n : ℕ) (l : List ℕ) → length (part at n l) ≤ length l
+part-within at n l = omega (arith, length-take n (drop at l), length-drop at l)
+
+named-most : (i : ℕ) (s : List ℕ) → length s ≤ slotLength → length (namedLines i s) ≤ 1240
+unfolding namedLines
+named-most i s h =
+    simp length-append
+    (omega (
+      arith,
+      length-decimal i,
+      length-decimal (flagOf s),
+      length-hex (keyIdOf s),
+      length-hex (sourceOf s),
+      part-within keyIdAt (keyIdLengthOf s) s,
+      part-within sourceAt (sourceLengthOf s) s,
+    ))
+
+terms-most : (s : List ℕ) → length (termLines s) ≤ 60
+unfolding termLines
+terms-most s = simp length-append (omega (arith, length-decimal (csOf s), length-decimal (entryOf s .window .frame .size)))
+
+moved-most : (s : List ℕ) → length (movedLines s) ≤ 160
+unfolding movedLines
+moved-most s =
+    simp length-append
+    (omega (
+      arith,
+      length-hex (bytesOf 6 (entryOf s .window .highest)),
+      length-hex (bytesOf 32 (entryOf s .window .marks)),
+      length-decimal (entryOf s .accepted),
+      length-decimal (entryOf s .bytes),
+      length-bytes 6 (entryOf s .window .highest),
+      length-bytes 32 (entryOf s .window .marks),
+    ))
+
+-- the length that a listing answers is within its output
+pub listed-within : (t : List ℕ) (i : ℕ) (out : List ℕ) → listed t i out .answer .length ≤ length out
+unfolding listed
+listed-within t i out =
+    either fits (ltb (length out) outputRoom) _ _ (λ _. omega arith)
+    (λ room.
+    either fits (ltb i slotCount && occupied (slotOf t i)) _ _ (λ _. either fits (undamaged (slotOf t i)) _ _ (λ _. done room) (λ _. omega arith)) (λ _. omega arith))
+  where
+    fits : Listed → Type 0
+    fits z = z .answer .length ≤ length out
+
+    done : ltb (length out) outputRoom ≡ false → length (listingOf i (slotOf t i)) ≤ length out
+    done room =
+        let short : length (slotOf t i) ≤ slotLength = omega (arith, length-take slotLength (drop (slotLength * i) t)) in
+        simp length-append (omega (arith, ltb-false (length out) outputRoom room, named-most i (slotOf t i) short, terms-most (slotOf t i), moved-most (slotOf t i)))

@@ -1,0 +1,81 @@
+-- 01's listing of an entry ("Numbers on both sides of the edge"), from `slot=` to `bytes=`: "Each line ends with a line feed. keyid, source,
+-- highest, marks are lower-case hex, two digits a byte, highest 12 digits and marks 64; the rest is decimal."
+use mathlib.Core.Bool.{cond, _&&_}
+use mathlib.Core.List.{List, [], _∷_, _++_}
+use Prim.Native.Nat.{ℕ, _+_}
+use lib.Dec.{ltb}
+use lib.ListN.{length}
+use Rattle.octets.specs.Octets.{bytesOf, put}
+use Rattle.text.specs.Text.{decimalLine, hexLine}
+use Rattle.answers.specs.Answers.{refused, outputRoom}
+use Rattle.answers.specs.declared.Answer.{Answer}
+use Rattle.slots.specs.Table.{slotOf, occupied, flagOf, csOf, keyIdOf, sourceOf, entryOf, slotCount}
+use Rattle.slots.specs.Record.{undamaged}
+
+-- the names of the lines: slot= flag= keyid= source= suite= size= highest= marks= accepted= bytes=
+abbrev pub slotName : List ℕ
+slotName = 115 ∷ 108 ∷ 111 ∷ 116 ∷ 61 ∷ []
+
+abbrev pub flagName : List ℕ
+flagName = 102 ∷ 108 ∷ 97 ∷ 103 ∷ 61 ∷ []
+
+abbrev pub keyIdName : List ℕ
+keyIdName = 107 ∷ 101 ∷ 121 ∷ 105 ∷ 100 ∷ 61 ∷ []
+
+abbrev pub sourceName : List ℕ
+sourceName = 115 ∷ 111 ∷ 117 ∷ 114 ∷ 99 ∷ 101 ∷ 61 ∷ []
+
+abbrev pub suiteName : List ℕ
+suiteName = 115 ∷ 117 ∷ 105 ∷ 116 ∷ 101 ∷ 61 ∷ []
+
+abbrev pub sizeName : List ℕ
+sizeName = 115 ∷ 105 ∷ 122 ∷ 101 ∷ 61 ∷ []
+
+abbrev pub highestName : List ℕ
+highestName = 104 ∷ 105 ∷ 103 ∷ 104 ∷ 101 ∷ 115 ∷ 116 ∷ 61 ∷ []
+
+abbrev pub marksName : List ℕ
+marksName = 109 ∷ 97 ∷ 114 ∷ 107 ∷ 115 ∷ 61 ∷ []
+
+abbrev pub acceptedName : List ℕ
+acceptedName = 97 ∷ 99 ∷ 99 ∷ 101 ∷ 112 ∷ 116 ∷ 101 ∷ 100 ∷ 61 ∷ []
+
+abbrev pub bytesName : List ℕ
+bytesName = 98 ∷ 121 ∷ 116 ∷ 101 ∷ 115 ∷ 61 ∷ []
+
+-- ---- the listing
+
+-- which entry it is
+unfoldable pub namedLines : ℕ → List ℕ → List ℕ
+namedLines i s =
+    decimalLine slotName i ++ decimalLine flagName (flagOf s) ++ hexLine keyIdName (keyIdOf s) ++ hexLine sourceName (sourceOf s)
+
+-- what else an install settled
+unfoldable pub termLines : List ℕ → List ℕ
+termLines s = decimalLine suiteName (csOf s) ++ decimalLine sizeName (entryOf s .window .frame .size)
+
+-- what the arrivals moved
+unfoldable pub movedLines : List ℕ → List ℕ
+movedLines s =
+    hexLine highestName (bytesOf 6 (entryOf s .window .highest))
+    ++ hexLine marksName (bytesOf 32 (entryOf s .window .marks))
+    ++ decimalLine acceptedName (entryOf s .accepted)
+    ++ decimalLine bytesName (entryOf s .bytes)
+
+abbrev pub listingOf : ℕ → List ℕ → List ℕ
+listingOf i s = namedLines i s ++ termLines s ++ movedLines s
+
+-- what listing leaves in the output
+pub record Listed : Type 0 where
+  pub answer : Answer
+  pub out : List ℕ
+
+-- 1: output buffer under 2,048 bytes; 16: slot over 15, or free; 7: record damaged. Done, it answers the text's length and the slot.
+unfoldable pub listed : List ℕ → ℕ → List ℕ → Listed
+listed t i out =
+    cond (ltb (length out) outputRoom) (record { answer = refused 1; out = out })
+    (cond (ltb i slotCount && occupied (slotOf t i))
+    (cond (undamaged (slotOf t i))
+    (record { answer = record { reply = 0; length = length (listingOf i (slotOf t i)); slot = i; seqnum = 0 }; out = put out 0 (listingOf i (slotOf t i)) })
+    (record { answer = refused 7; out = out }))
+    (record { answer = refused 16; out = out }))

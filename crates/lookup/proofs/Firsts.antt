@@ -1,0 +1,83 @@
+-- The lowest slot that passes a test: a turn and the ends of a loop that looks for it, and what the answer says.
+-- Assumes nothing.
+use mathlib.Core.Path.{_≡_, refl, sym, _∙_}
+use mathlib.Core.Bool.{Bool, true, false, cond, not, not-eq-not}
+use mathlib.Core.List.{List}
+use Prim.Native.Nat.{ℕ, zero, suc, _+_, _-_, _≤_, _<_}
+use native.Mathlib.Decide.{decLt}
+use native.Mathlib.Numerals.{add-one}
+use native.Mathlib.Omega.{arith}
+use borrow.Author.Tests.{not-true}
+use Rattle.slots.specs.Table.{slotOf, occupied, slotCount}
+use Rattle.lookup.specs.Lookup.{matches, firstFrom, leadsTo, firstFree}
+use Rattle.lookup.specs.declared.Found.the-variants.{At, Nothing}
+
+module _ (test : ℕ → Bool) where
+  -- a loop through the sixteen slots: it finds one, goes on, and ends
+  pub here : (i : ℕ) → i < slotCount → test i ≡ true → firstFrom test (slotCount - i) i ≡ At i
+  here i h passes = let more : slotCount - i ≡ suc (15 - i) = omega arith in rw (more, passes)
+
+  pub further : (i : ℕ) → i < slotCount → test i ≡ false → firstFrom test (slotCount - i) i ≡ firstFrom test (slotCount - (i + 1)) (i + 1)
+  further i h fails =
+      let more : slotCount - i ≡ suc (15 - i) = omega arith in
+      let less : slotCount - (i + 1) ≡ 15 - i = omega arith in
+      rw (more, fails, less, add-one)
+
+  pub nowhere : (i : ℕ) → slotCount ≤ i → firstFrom test (slotCount - i) i ≡ Nothing
+  nowhere i h = let none : slotCount - i ≡ 0 = omega arith in rw none
+
+  -- what is found lies among those looked at, and passes
+  pub found : (n i j : ℕ) → firstFrom test n i ≡ At j → (j < i + n) × (test j ≡ true)
+  found zero i j e = let z : _≡_ {A = ℕ} 0 1 = cc in absurd (omega arith)
+  found (suc n) i j e = by (test i) refl e (found n (suc i) j)
+    where
+      by : (b : Bool) → test i ≡ b → cond b (At i) (firstFrom test n (suc i)) ≡ At j
+          → (firstFrom test n (suc i) ≡ At j → (j < suc i + n) × (test j ≡ true)) → (j < i + suc n) × (test j ≡ true)
+      by true p e later = let same : i ≡ j = cc in (omega arith, rw same at p)
+      by false p e later = let l = later e in (omega arith, l .1)
+
+  -- a slot that passes is found, or one below it
+  pub reached : (n i k : ℕ) → i ≤ k → k < i + n → test k ≡ true → (j : ℕ) × (firstFrom test n i ≡ At j) × (j ≤ k)
+  reached zero i k a b p = absurd (omega arith)
+  reached (suc n) i k a b p = by (test i) refl (decLt i k) (reached n (suc i) k)
+    where
+      by : (b : Bool) → test i ≡ b → Dec (i < k)
+          → (suc i ≤ k → k < suc i + n → test k ≡ true → (j : ℕ) × (firstFrom test n (suc i) ≡ At j) × (j ≤ k))
+          → (j : ℕ) × (cond b (At i) (firstFrom test n (suc i)) ≡ At j) × (j ≤ k)
+      by true e d later = (i, refl, a)
+      by false e (yes l) later = later (omega arith) (omega arith) p
+      by false e (no l) later =
+          let same : k ≡ i = omega arith in
+          let z : _≡_ {A = Bool} false true = sym e ∙ rw same at p in
+          let o : _≡_ {A = ℕ} 0 1 = cc in
+          absurd (omega arith)
+
+  -- where nothing is found, none passes
+  pub none : (n i k : ℕ) → firstFrom test n i ≡ Nothing → i ≤ k → k < i + n → test k ≡ false
+  none n i k e a b =
+      not-eq-not .0
+      (λ passes.
+      let r = reached n i k a b passes in
+      let z : _≡_ {A = ℕ} 0 1 = cc in
+      omega arith)
+
+module _ (t : List ℕ) (i : ℕ) where
+  pub leads-small : (flag : ℕ) (keyId source : List ℕ) → leadsTo t flag keyId source ≡ At i → i < slotCount
+  unfolding leadsTo
+  leads-small flag keyId source e = found (λ j. matches flag keyId source (slotOf t j)) slotCount 0 i e .0
+
+  pub leads-matches : (flag : ℕ) (keyId source : List ℕ) → leadsTo t flag keyId source ≡ At i → matches flag keyId source (slotOf t i) ≡ true
+  unfolding leadsTo
+  leads-matches flag keyId source e = found (λ j. matches flag keyId source (slotOf t j)) slotCount 0 i e .1
+
+  pub leads-nowhere : (flag : ℕ) (keyId source : List ℕ) → leadsTo t flag keyId source ≡ Nothing → i < slotCount → matches flag keyId source (slotOf t i) ≡ false
+  unfolding leadsTo
+  leads-nowhere flag keyId source e small = none (λ j. matches flag keyId source (slotOf t j)) slotCount 0 i e (omega arith) small
+
+  pub free-small : firstFree t ≡ At i → i < slotCount
+  unfolding firstFree
+  free-small e = found (λ j. not (occupied (slotOf t j))) slotCount 0 i e .0
+
+  pub free-empty : firstFree t ≡ At i → occupied (slotOf t i) ≡ false
+  unfolding firstFree
+  free-empty e = not-true (occupied (slotOf t i)) (found (λ j. not (occupied (slotOf t j))) slotCount 0 i e .1)

@@ -1,0 +1,137 @@
+// What a script's commands do with derived keys and whole messages, under a key and a source. Where the operands are such that there is no message or
+// payload, a function answers the length of the whole output.
+use format::header;
+use format::header::Parsed;
+use format::key_data::Terms;
+use format::suite::Numbered;
+use format::suite::Suite;
+use message::sealing;
+use message::sealing::Opened;
+
+const WHOLE: usize = 2048;
+
+// The words of the key that is the first operand.
+pub fn key(operands: &[u8]) -> [u32; 8] {
+    let bytes = script::operand(operands, 0);
+    if bytes.len() != 32 {
+        return [0; 8];
+    }
+    modes::key_words(bytes)
+}
+
+// Suite, SeqNum and the number of a block: the block, or, of command 12, the next.
+pub fn derived_block(command: usize, operands: &[u8]) -> u64 {
+    let source = script::operand(operands, 1);
+    if 32 < source.len() {
+        return 0;
+    }
+    let numbered = Suite::numbered(script::byte(operands, 2));
+    let Numbered::Known(suite) = numbered else {
+        return 0;
+    };
+    let base = key(operands);
+    let subkeys = modes::subkeys_of(&base);
+    let seqnum = script::number(operands, 3);
+    let first = script::byte(operands, 4) % 6;
+    let key = derivation::derived_key(&base, subkeys, suite, source, seqnum, first);
+    match command {
+        12 => pair(key[2], key[3]),
+        _ => pair(key[0], key[1]),
+    }
+}
+
+fn pair(high: u32, low: u32) -> u64 {
+    (high as u64) * 4294967296 + (low as u64)
+}
+
+// Suite, SeqNum, flag, KeyId and payload: the message is written into the output. Answers its length.
+pub fn seal(operands: &[u8], out: &mut [u8]) -> usize {
+    let key = script::operand(operands, 0);
+    if key.len() != 32 {
+        return WHOLE;
+    }
+    let source = script::operand(operands, 1);
+    if 32 < source.len() {
+        return WHOLE;
+    }
+    let numbered = Suite::numbered(script::byte(operands, 2));
+    let Numbered::Known(suite) = numbered else {
+        return WHOLE;
+    };
+    let keyid = script::operand(operands, 5);
+    let payload = script::operand(operands, 6);
+    let room = header::FIXED + keyid.len() + payload.len();
+    if out.len() < room {
+        return WHOLE;
+    }
+    if out.len() - room < suite.icv_length() {
+        return WHOLE;
+    }
+    let terms = Terms {
+        flag: script::byte(operands, 4) % 2,
+        suite: script::byte(operands, 2),
+    };
+    sealing::seal(
+        suite,
+        terms,
+        keyid,
+        source,
+        key,
+        script::number(operands, 3) % 281474976710656,
+        payload,
+        out,
+    )
+}
+
+// The payload of a message is written into the output. Answers its length.
+pub fn open(operands: &[u8], message: &[u8], out: &mut [u8]) -> usize {
+    let key = script::operand(operands, 0);
+    if key.len() != 32 {
+        return WHOLE;
+    }
+    let source = script::operand(operands, 1);
+    if 32 < source.len() {
+        return WHOLE;
+    }
+    if out.len() < message.len() {
+        return WHOLE;
+    }
+    let parsed = header::read_header(message);
+    let Parsed::Read(read) = parsed else {
+        return WHOLE;
+    };
+    let found = sealing::open(read, key, source, message, out);
+    let Opened::Payload(length) = found else {
+        return WHOLE;
+    };
+    length
+}
+
+// The message of `seal`, from a place on. Answers twice the length of what it opens to, and 1 more if that is the payload.
+pub fn show_sealed(line: &[u8], operands: &[u8]) -> u64 {
+    let mut out = [0u8; WHOLE];
+    let end = seal(operands, &mut out);
+    let message = script::part(&out, 0, end);
+    script::show(
+        line,
+        script::part(message, script::number(operands, 7) as usize, end),
+    );
+    again(operands, message)
+}
+
+fn again(operands: &[u8], message: &[u8]) -> u64 {
+    let mut out = [0u8; WHOLE];
+    let length = open(operands, message, &mut out);
+    let payload = script::part(&out, 0, length);
+    if octets::equal(payload, script::operand(operands, 6)) {
+        return 2 * (payload.len() as u64) + 1;
+    }
+    2 * (payload.len() as u64)
+}
+
+// Message: the payload.
+pub fn show_opened(line: &[u8], operands: &[u8]) {
+    let mut out = [0xaau8; WHOLE];
+    let length = open(operands, script::operand(operands, 2), &mut out);
+    script::show(line, script::part(&out, 0, length));
+}

@@ -1,0 +1,7 @@
+pub mod Damage
+pub mod Replacing
+pub mod Settled
+pub mod Settling
+pub mod Slots
+pub mod Standing
+pub mod Windows

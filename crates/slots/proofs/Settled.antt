@@ -1,0 +1,122 @@
+-- A slot with another window and other totals keeps its key data, and the table with such a slot is one with that slot replaced.
+-- Assumes nothing.
+use mathlib.Core.Path.{_≡_, sym, ap, _∙_}
+use mathlib.Core.List.{List, [], _∷_, _++_, map, append-assoc, append-nil}
+use mathlib.Core.Logic.{inl}
+use Prim.Native.Nat.{ℕ, _+_, _*_, _≤_, _<_}
+use native.Mathlib.Omega.{arith}
+use lib.Dec.{lit≤}
+use lib.ListN.{length, getD, take, drop, length-append, length-drop}
+use lib.Seq.{getD-drop, length-take-le}
+use Rattle.octets.specs.Octets.{bigEndian, bytesOf, part, put}
+use Rattle.octets.proofs.BigEndian.{length-bytes}
+use Rattle.octets.proofs.Parts.{number-same, put-below, part-other, put-within}
+use Rattle.octets.proofs.Places.{length-put}
+use Rattle.window.specs.Window.{Frame}
+use Rattle.window.specs.Entry.{Entry}
+use Rattle.window.proofs.Entries.{UndamagedEntry, totals-small}
+use Rattle.window.proofs.Undamaged.{undamaged-facts, marks-small}
+use Rattle.slots.specs.Table.{slotOf, flagOf, csOf, keyIdLengthOf, keyIdOf, sourceLengthOf, sourceOf, keyOf, windowOf, entryOf, historyBytes, settled, replaced, slotLength, slotCount, tableLength, occupiedAt, flagAt, suiteAt, keyIdLengthAt, keyIdAt, sourceLengthAt, sourceAt, keyAt, sizeAt, highestAt, replaysAt}
+use Rattle.slots.proofs.Slots.{slot-length}
+use Rattle.slots.proofs.Standing.{Lies, joined, ahead, lies, number}
+
+-- all but window and totals
+pub record SameKeys (s other : List ℕ) : Type 0 where
+  pub first : getD other 0 0 ≡ getD s 0 0
+  pub flag : flagOf other ≡ flagOf s
+  pub cs : csOf other ≡ csOf s
+  pub keyid-length : keyIdLengthOf other ≡ keyIdLengthOf s
+  pub keyid : keyIdOf other ≡ keyIdOf s
+  pub source-length : sourceLengthOf other ≡ sourceLengthOf s
+  pub source : sourceOf other ≡ sourceOf s
+  pub key : keyOf other ≡ keyOf s
+
+-- ---- a slot
+
+-- four stretches in a row, written into a list, and what they leave of it before and behind them
+row-of-four : (s a b c d : List ℕ) (at n : ℕ) → length (a ++ b ++ c ++ d) ≡ n
+    → put s at (a ++ b ++ c ++ d) ≡ joined (take at s ∷ a ∷ b ∷ c ∷ d ∷ drop (at + n) s ∷ [])
+row-of-four s a b c d at n e = rw e (simp (append-assoc, append-nil))
+
+module _ (s : List ℕ) (e : Entry) (long : length s ≡ slotLength) where
+  abbrev now : List ℕ
+  now = put s highestAt (historyBytes e)
+
+  length-history : length (historyBytes e) ≡ 56
+  length-history = simp (length-append, length-bytes)
+
+  room : highestAt + length (historyBytes e) ≤ length s
+  room = rw (length-history, long) (lit≤ tt)
+
+  length-now : length now ≡ slotLength
+  length-now = length-put s highestAt (historyBytes e) room ∙ long
+
+  byte : (n : ℕ) → n < highestAt → getD now n 0 ≡ getD s n 0
+  byte = put-below s highestAt (historyBytes e) room
+
+  piece : (at n : ℕ) → at + n ≤ highestAt → part at n now ≡ part at n s
+  piece at n h = part-other s highestAt (historyBytes e) room at n (omega arith) (inl h)
+
+  pub settled-keys : keyIdLengthOf s ≤ 128 → sourceLengthOf s ≤ 32 → SameKeys s now
+  settled-keys k n =
+      let keyid : keyIdLengthOf now ≡ keyIdLengthOf s = byte keyIdLengthAt (lit≤ tt) in
+      let source : sourceLengthOf now ≡ sourceLengthOf s = byte sourceLengthAt (lit≤ tt) in record {
+        first = byte occupiedAt (lit≤ tt);
+        flag = byte flagAt (lit≤ tt);
+        cs = byte suiteAt (lit≤ tt);
+        keyid-length = keyid;
+        keyid = ap (λ (x : ℕ). part keyIdAt x now) keyid ∙ piece keyIdAt (keyIdLengthOf s) (omega arith);
+        source-length = source;
+        source = ap (λ (x : ℕ). part sourceAt x now) source ∙ piece sourceAt (sourceLengthOf s) (omega arith);
+        key = piece keyAt 32 (lit≤ tt);
+      }
+
+  same-size : bigEndian 8 (drop sizeAt now) ≡ bigEndian 8 (drop sizeAt s)
+  same-size =
+      number-same 8 (drop sizeAt now) (drop sizeAt s)
+      (λ i h. getD-drop sizeAt now i 0 ∙ byte (sizeAt + i) (omega arith) ∙ sym (getD-drop sizeAt s i 0))
+
+  -- the stretches that it is made of, and their lengths
+  abbrev stretches : List (List ℕ)
+  stretches =
+      take highestAt s ∷ bytesOf 8 (e .window .highest) ∷ bytesOf 32 (e .window .marks) ∷ bytesOf 8 (e .accepted) ∷ bytesOf 8 (e .bytes)
+      ∷ drop replaysAt s ∷ []
+
+  abbrev lengths : List ℕ
+  lengths = highestAt ∷ 8 ∷ 32 ∷ 8 ∷ 8 ∷ 18 ∷ []
+
+  in-stretches : now ≡ joined stretches
+  in-stretches =
+      row-of-four s (bytesOf 8 (e .window .highest)) (bytesOf 32 (e .window .marks)) (bytesOf 8 (e .accepted)) (bytesOf 8 (e .bytes)) highestAt 56 length-history
+
+  of-lengths : map length stretches ≡ lengths
+  of-lengths = simp (length-bytes, length-take-le highestAt s (rw long (lit≤ tt)), length-drop, long)
+
+  there : (j : ℕ) → Lies now (ahead lengths j) (getD stretches j [])
+  there j = rw in-stretches (lies stretches lengths of-lengths j)
+
+  pub settled-entry : UndamagedEntry e → windowOf s .frame ≡ e .window .frame → entryOf now ≡ e
+  settled-entry w frame =
+      let u = undamaged-facts (e .window) (w .window) in
+      let t = totals-small e w in
+      rw (
+        same-size,
+        number 8 (e .window .highest) (there 1) (omega (arith, u .high)),
+        number 32 (e .window .marks) (there 2) (marks-small u),
+        number 8 (e .accepted) (there 3) (omega arith),
+        number 8 (e .bytes) (there 4) (omega arith),
+      )
+      (ap (λ (f : Frame). record { window = record { frame = f; highest = e .window .highest; marks = e .window .marks }; accepted = e .accepted; bytes = e .bytes }) frame)
+
+-- ---- a table
+
+module _ (t : List ℕ) (i : ℕ) (e : Entry) (long : length t ≡ tableLength) (small : i < slotCount) where
+  abbrev pub settledSlot : List ℕ
+  settledSlot = put (slotOf t i) highestAt (historyBytes e)
+
+  pub length-slot : length settledSlot ≡ slotLength
+  length-slot = length-now (slotOf t i) e (slot-length t i long small)
+
+  pub as-replaced : settled t i e ≡ replaced t i settledSlot
+  unfolding settled
+  as-replaced = put-within t (slotLength * i) slotLength highestAt (historyBytes e) (omega arith) (rw (length-history (slotOf t i) e (slot-length t i long small)) (lit≤ tt))

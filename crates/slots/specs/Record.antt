@@ -1,0 +1,11 @@
+-- When a record is damaged (01, "Key lookup, window and totals").
+use mathlib.Core.Bool.{Bool, _&&_}
+use mathlib.Core.List.{List}
+use Prim.Native.Nat.{ℕ}
+use Rattle.format.specs.KeyData.{soundOf}
+use Rattle.window.specs.Entry.{undamagedEntry}
+use Rattle.slots.specs.Table.{keyDataOf, entryOf}
+
+-- its key data is sound, and window and totals are within their bounds
+unfoldable pub undamaged : List ℕ → Bool
+undamaged s = soundOf (keyDataOf s) && undamagedEntry (entryOf s)

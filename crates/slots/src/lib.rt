@@ -1,0 +1,3 @@
+// A slot of the table that a caller lends: where the parts of an entry stand, and its window and totals, read, checked and written.
+pub mod layout; // layout.rt: where the parts of an entry stand in its slot
+pub mod record; // record.rt: window and totals of an entry
