@@ -1,4 +1,4 @@
--- `gateway::text::write_decimal` meets its contract: the measure is the number, and each digit stands behind those of a tenth of it. Assumes nothing.
+-- `text::write_decimal` meets its contract: the measure is the number, and each digit stands behind those of a tenth of it. Assumes nothing.
 use Prim.Native.Nat.{ℕ, _+_, _<_, _≤_}
 use native.Mathlib.Omega.{arith}
 use borrow.Author.Needs.{needs}

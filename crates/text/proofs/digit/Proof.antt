@@ -1,4 +1,4 @@
--- `gateway::text::digit` meets its contract, by the test that its definition has. Assumes nothing.
+-- `text::digit` meets its contract, by the test that its definition has. Assumes nothing.
 use borrow.Author.Needs.{needs}
 use borrow.Author.Tests.{lt-ltb, le-ltb}
 use native.Mathlib.Omega.{arith}

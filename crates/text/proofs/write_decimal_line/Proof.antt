@@ -1,4 +1,4 @@
--- `gateway::text::write_decimal_line` meets its contract: name, digits and line feed stand behind one another. Assumes nothing.
+-- `text::write_decimal_line` meets its contract: name, digits and line feed stand behind one another. Assumes nothing.
 use mathlib.Core.Path.{_∙_}
 use native.Mathlib.Omega.{arith}
 use borrow.Author.Needs.{needs}

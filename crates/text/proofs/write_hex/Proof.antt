@@ -1,4 +1,4 @@
--- `gateway::text::write_hex` meets its contract. The loop's invariant: the bytes passed are written in hex, and the others stay. Assumes nothing.
+-- `text::write_hex` meets its contract. The loop's invariant: the bytes passed are written in hex, and the others stay. Assumes nothing.
 use mathlib.Core.Path.{_≡_, refl}
 use Prim.Native.Nat.{_-_, _≤_}
 use native.Mathlib.Omega.{arith}

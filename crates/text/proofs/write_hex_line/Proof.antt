@@ -1,4 +1,4 @@
--- `gateway::text::write_hex_line` meets its contract: name, hex and line feed stand behind one another. Assumes nothing.
+-- `text::write_hex_line` meets its contract: name, hex and line feed stand behind one another. Assumes nothing.
 use mathlib.Core.Path.{_∙_}
 use Prim.Native.Nat.{_+_, _*_}
 use native.Mathlib.Omega.{arith}

@@ -1,4 +1,4 @@
--- `gateway::installing::remove_in` meets its contract, by the test that led to each answer. Assumes nothing.
+-- `entries::installing::remove_in` meets its contract, by the test that led to each answer. Assumes nothing.
 use native.Mathlib.Omega.{arith}
 use borrow.Author.Needs.{needs}
 use Rattle.entries.proofs.Removing.{removes-over, removes-free, removes}
