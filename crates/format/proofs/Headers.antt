@@ -11,26 +11,26 @@ use lib.ListN.{length, drop}
 use Rattle.octets.specs.Octets.{bigEndian}
 use Rattle.format.specs.KeyId.{lengthOf}
 use Rattle.format.specs.Suite.{suiteOf, icvLengthOf}
-use Rattle.format.specs.Header.{csIn, keyIdIn, readAs, readOf}
+use Rattle.format.specs.Header.{leastMessage, greatestMessage, fixedBytes, csIn, keyIdIn, readAs, readOf}
 use Rattle.format.specs.declared.header.Parsed.the-variants.{Read, BadLength, BadVersion, BadSuite, TooShort}
 use Rattle.format.specs.declared.key_id.KeyId.{KeyId}
 use Rattle.format.specs.declared.suite.Numbered.{Numbered}
 use Rattle.format.specs.declared.suite.Numbered.the-variants.{Known, Unknown}
 use Rattle.format.specs.declared.suite.Suite.{Suite}
 
-pub reads-short : (m : List ℕ) → length m < 14 → BadLength ≡ readOf m
+pub reads-short : (m : List ℕ) → length m < leastMessage → BadLength ≡ readOf m
 unfolding readOf
-reads-short m h = simp (lt-ltb (length m) 14 h)
+reads-short m h = simp (lt-ltb (length m) leastMessage h)
 
-pub reads-long : (m : List ℕ) → 2048 < length m → BadLength ≡ readOf m
+pub reads-long : (m : List ℕ) → greatestMessage < length m → BadLength ≡ readOf m
 unfolding readOf
-reads-long m h = simp (le-ltb (length m) 14 (omega arith), lt-ltb 2048 (length m) h)
+reads-long m h = simp (le-ltb (length m) leastMessage (omega arith), lt-ltb greatestMessage (length m) h)
 
 -- the length is right, and `front` is the number of the first two bytes
-module _ (m : List ℕ) (least : 14 ≤ length m) (most : length m ≤ 2048) (front : ℕ) (is : front ≡ bigEndian 2 m) where
+module _ (m : List ℕ) (least : leastMessage ≤ length m) (most : length m ≤ greatestMessage) (front : ℕ) (is : front ≡ bigEndian 2 m) where
   by-version : cond (eqb (front % 2 ^ 15) 0) (readAs (suiteOf (csIn m)) m) BadVersion ≡ readOf m
   unfolding readOf
-  by-version = simp (le-ltb (length m) 14 least, le-ltb 2048 (length m) most, is)
+  by-version = simp (le-ltb (length m) leastMessage least, le-ltb greatestMessage (length m) most, is)
 
   pub reads-version : (front % 2 ^ 15 ≡ 0 → ⊥) → BadVersion ≡ readOf m
   reads-version h = rw (← by-version, ne-eqb (front % 2 ^ 15) 0 h)
@@ -43,8 +43,8 @@ module _ (m : List ℕ) (least : 14 ≤ length m) (most : length m ≤ 2048) (fr
 
 -- what is known of a message whose KeyId is found: `front` is the number of the first two bytes, l the KeyId's length
 pub record Begun (m : List ℕ) (front : ℕ) (s : Suite) (keyid : KeyId) (l : ℕ) : Type 0 where
-  pub least : 14 ≤ length m
-  pub most : length m ≤ 2048
+  pub least : leastMessage ≤ length m
+  pub most : length m ≤ greatestMessage
   pub is : front ≡ bigEndian 2 m
   pub version : front % 2 ^ 15 ≡ 0
   pub known : Known s ≡ suiteOf (csIn m)
@@ -57,10 +57,10 @@ by-known {m} {front} {s} b = by-suite m (b .least) (b .most) front (b .is) (b .v
 pub reads-too-short : {m : List ℕ} {front : ℕ} {s : Suite} {keyid : KeyId} {l : ℕ} → Begun m front s keyid l
     → length m < 3 + l + 6 + icvLengthOf s → TooShort ≡ readOf m
 reads-too-short {m} {front} {s} {keyid} {l} b h =
-    rw (← by-known b, ← b .found, ← b .long, lt-ltb (length m) (9 + l + icvLengthOf s) (omega arith))
+    rw (← by-known b, ← b .found, ← b .long, lt-ltb (length m) (fixedBytes + l + icvLengthOf s) (omega arith))
 
 pub reads : {m : List ℕ} {front : ℕ} {s : Suite} {keyid : KeyId} {l : ℕ} → Begun m front s keyid l
     → 3 + l + 6 + icvLengthOf s ≤ length m → (seqnum : ℕ) → seqnum ≡ bigEndian 6 (drop (3 + l) m)
     → Read (record { flag = front / 2 ^ 15; suite = s; keyid = keyid; seqnum = seqnum }) ≡ readOf m
 reads {m} {front} {s} {keyid} {l} b h seqnum e =
-    rw (← by-known b, ← b .found, ← b .long, le-ltb (length m) (9 + l + icvLengthOf s) (omega arith), e, b .is)
+    rw (← by-known b, ← b .found, ← b .long, le-ltb (length m) (fixedBytes + l + icvLengthOf s) (omega arith), e, b .is)

@@ -3,7 +3,7 @@
 use mathlib.Core.Bool.{Bool, true, false, cond, _||_}
 use mathlib.Core.List.{List}
 use mathlib.Core.Path.{_≡_, refl, ap, subst}
-use Prim.Native.Nat.{ℕ, _+_, _^_, _≤_, _<_}
+use Prim.Native.Nat.{ℕ, _+_, _-_, _^_, _≤_, _<_}
 use native.Mathlib.Omega.{arith}
 use borrow.Author.Tests.{ltb-false}
 use lib.Dec.{eqb, ltb}
@@ -12,7 +12,7 @@ use Rattle.octets.specs.Octets.{Bytes}
 use Rattle.octets.proofs.BigEndian.{bytes-drop, number-lt}
 use Rattle.format.specs.KeyId.{lengthOf}
 use Rattle.format.specs.Suite.{suiteOf, icvLengthOf}
-use Rattle.format.specs.Header.{flagIn, versionIn, csIn, keyIdIn, seqNumIn, readAs, readOf, refusalOf, payloadLength}
+use Rattle.format.specs.Header.{leastMessage, greatestMessage, fixedBytes, flagIn, versionIn, csIn, keyIdIn, seqNumIn, readAs, readOf, refusalOf, payloadLength}
 use Rattle.format.specs.declared.header.Header.{Header}
 use Rattle.format.specs.declared.header.Parsed.{Parsed}
 use Rattle.format.specs.declared.header.Parsed.the-variants.{Read, BadLength, BadVersion, BadSuite, TooShort}
@@ -22,8 +22,8 @@ use Rattle.format.proofs.KeyIds.{length-least}
 use Rattle.format.proofs.Suites.{icv-four}
 
 pub record Room (m : List ℕ) (h : Header) : Type 0 where
-  pub short : length m ≤ 2048
-  pub enough : 9 + lengthOf (h .keyid) + icvLengthOf (h .suite) ≤ length m
+  pub short : length m ≤ greatestMessage
+  pub enough : fixedBytes + lengthOf (h .keyid) + icvLengthOf (h .suite) ≤ length m
   pub number : h .seqnum ≡ seqNumIn m
 
 -- a choice that came out as a header did not come out as a refusal
@@ -41,13 +41,13 @@ second-false false q e = e
 module _ (m : List ℕ) (h : Header) where
   -- what of it the last test tells
   abbrev Told : Header → Type 0
-  Told g = (9 + lengthOf (g .keyid) + icvLengthOf (g .suite) ≤ length m) × (g .seqnum ≡ seqNumIn m)
+  Told g = (fixedBytes + lengthOf (g .keyid) + icvLengthOf (g .suite) ≤ length m) × (g .seqnum ≡ seqNumIn m)
 
   as-known : (n : Numbered) → readAs n m ≡ Read h → Told h
   as-known Unknown e = absurd (refused BadSuite h (omega arith) e)
   as-known (Known s) e =
       let read : Header = record { flag = flagIn m; suite = s; keyid = keyIdIn m; seqnum = seqNumIn m } in
-      let long = 9 + lengthOf (keyIdIn m) + icvLengthOf s in
+      let long = fixedBytes + lengthOf (keyIdIn m) + icvLengthOf s in
       let r = not-first (ltb (length m) long) TooShort (Read read) h (omega arith) e in
       let same : Read read ≡ Read h = r .1 in
       let is : read ≡ h = cc in
@@ -61,17 +61,17 @@ pub read-room : (m : List ℕ) {h : Header} → readOf m ≡ Read h → Room m h
 unfolding readOf
 read-room m {h} e =
     let version = cond (eqb (versionIn m) 0) (readAs (suiteOf (csIn m)) m) BadVersion in
-    let r = not-first (ltb (length m) 14 || ltb 2048 (length m)) BadLength version h (omega arith) e in
+    let r = not-first (ltb (length m) leastMessage || ltb greatestMessage (length m)) BadLength version h (omega arith) e in
     let told = of-version m h (eqb (versionIn m) 0) (r .1) in
     record {
-      short = ltb-false 2048 (length m) (second-false (ltb (length m) 14) (ltb 2048 (length m)) (r .0));
+      short = ltb-false greatestMessage (length m) (second-false (ltb (length m) leastMessage) (ltb greatestMessage (length m)) (r .0));
       enough = told .0;
       number = told .1;
     }
 
 module _ {m : List ℕ} {h : Header} (r : Room m h) where
   -- "a payload has at most 2,035 − L"
-  pub payload-most : payloadLength h m ≤ 2034
+  pub payload-most : payloadLength h m ≤ greatestMessage - leastMessage
   payload-most = omega (arith, r .short, icv-four (h .suite), length-least (h .keyid))
 
   pub number-small : Bytes m → h .seqnum < 2 ^ 48

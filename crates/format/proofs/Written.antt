@@ -10,7 +10,7 @@ use Rattle.octets.proofs.BigEndian.{length-bytes, number-there}
 use Rattle.octets.proofs.Places.{put-four}
 use Rattle.format.specs.KeyId.{keyIdStarting, lengthAsked}
 use Rattle.format.specs.Suite.{suiteOf, numberOf, icvLengthOf}
-use Rattle.format.specs.Header.{readOf, headerBytes}
+use Rattle.format.specs.Header.{greatestMessage, fixedBytes, readOf, headerBytes}
 use Rattle.format.specs.declared.header.Header.{Header}
 use Rattle.format.specs.declared.header.Parsed.the-variants.{Read}
 use Rattle.format.specs.declared.suite.Suite.{Suite}
@@ -37,7 +37,7 @@ module _ (flag : ℕ) (s : Suite) (keyId : List ℕ) where
   seqnum-place : length (bytesOf 2 (flag * 2 ^ 15) ++ bytesOf 1 (numberOf s) ++ keyId) ≡ 3 + length keyId
   seqnum-place = rw (length-append, keyid-place)
 
-  pub header-length : (seqNum : ℕ) → length (headerBytes flag s keyId seqNum) ≡ 9 + length keyId
+  pub header-length : (seqNum : ℕ) → length (headerBytes flag s keyId seqNum) ≡ fixedBytes + length keyId
   header-length seqNum = rw (length-append, seqnum-place, length-bytes) (omega arith)
 
   -- its four parts, each written behind the one before
@@ -49,14 +49,14 @@ module _ (flag : ℕ) (s : Suite) (keyId : List ℕ) where
       (rw length-bytes) (rw length-bytes) refl a (rw is at b) c d
 
 pub read-written : (flag : ℕ) (s : Suite) (keyId : List ℕ) (seqNum : ℕ) (rest : List ℕ) → Writable flag keyId seqNum
-    → icvLengthOf s ≤ length rest → 9 + length keyId + length rest ≤ 2048
+    → icvLengthOf s ≤ length rest → fixedBytes + length keyId + length rest ≤ greatestMessage
     → readOf (headerBytes flag s keyId seqNum ++ rest) ≡ Read (headerFor flag s keyId seqNum)
 unfolding bytesOf
 read-written flag s keyId seqNum rest w enough short =
     let m = headerBytes flag s keyId seqNum ++ rest in
     let first = getD keyId 0 0 in
     let some : 1 ≤ length keyId = rw (w .keyid-length) (length-least (keyIdStarting first 0)) in
-    let long : length m ≡ 9 + length keyId + length rest = length-append (headerBytes flag s keyId seqNum) rest ∙ rw (header-length flag s keyId seqNum) in
+    let long : length m ≡ fixedBytes + length keyId + length rest = length-append (headerBytes flag s keyId seqNum) rest ∙ rw (header-length flag s keyId seqNum) in
     let small : flag * 2 ^ 15 < 2 ^ 16 = omega arith in
     let same : flag * 2 ^ 15 / 2 ^ 15 ≡ flag = omega arith in
     let begun : Begun m (flag * 2 ^ 15) s (keyIdStarting first 3) (length keyId) = record {

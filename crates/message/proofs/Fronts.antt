@@ -12,7 +12,7 @@ use Rattle.octets.proofs.BigEndian.{bytes-append, bytes-small}
 use Rattle.magma.specs.Magma.{keyWords}
 use Rattle.format.specs.Suite.{numberOf, icvLengthOf}
 use Rattle.format.specs.KeyData.{KeyData}
-use Rattle.format.specs.Header.{headerBytes}
+use Rattle.format.specs.Header.{fixedBytes, headerBytes}
 use Rattle.message.specs.Sealing.{icvOf, enciphered, frontOf, sealed}
 use Rattle.format.specs.declared.suite.Suite.{Suite}
 use Rattle.message.proofs.Payloads.{enciphered-length, enciphered-bytes}
@@ -20,7 +20,7 @@ use Rattle.derivation.proofs.Pieces.{take-put}
 use Rattle.format.proofs.Written.{header-length}
 
 module _ (s : Suite) (k : KeyData) (seqNum : ℕ) (payload : List ℕ) where
-  pub front-length : length (frontOf s k seqNum payload) ≡ 9 + length (k .keyId) + length payload
+  pub front-length : length (frontOf s k seqNum payload) ≡ fixedBytes + length (k .keyId) + length payload
   unfolding frontOf
   front-length =
       rw (
@@ -40,25 +40,25 @@ module _ (s : Suite) (k : KeyData) (seqNum : ℕ) (payload : List ℕ) where
 
   -- the header is written, and the payload behind it
   pub front-written : (l : List ℕ) {l₁ l₂ : List ℕ} → l₁ ≡ put l 0 (headerBytes (k .flag) s (k .keyId) seqNum)
-      → l₂ ≡ put l₁ (9 + length (k .keyId)) (enciphered s (keyWords (k .key)) (k .source) seqNum payload) → l₂ ≡ put l 0 (frontOf s k seqNum payload)
+      → l₂ ≡ put l₁ (fixedBytes + length (k .keyId)) (enciphered s (keyWords (k .key)) (k .source) seqNum payload) → l₂ ≡ put l 0 (frontOf s k seqNum payload)
   unfolding frontOf
   front-written l {l₁} w₁ w₂ =
-      let header : Written l 0 (headerBytes (k .flag) s (k .keyId) seqNum) l₁ (9 + length (k .keyId)) =
+      let header : Written l 0 (headerBytes (k .flag) s (k .keyId) seqNum) l₁ (fixedBytes + length (k .keyId)) =
       record { ends = sym (zero-add _ ∙ header-length (k .flag) s (k .keyId) seqNum); is = w₁ } in
       and-then header (omega arith) (enciphered s (keyWords (k .key)) (k .source) seqNum payload) _ refl w₂ .is
 
   module _ (l : List ℕ) {done : List ℕ} (is : done ≡ put l 0 (frontOf s k seqNum payload)) where
     -- it can be read off the output
-    front-taken : take (9 + length (k .keyId) + length payload) done ≡ frontOf s k seqNum payload
+    front-taken : take (fixedBytes + length (k .keyId) + length payload) done ≡ frontOf s k seqNum payload
     front-taken =
-        rw is (take-put l 0 (frontOf s k seqNum payload) (9 + length (k .keyId) + length payload) (omega arith) (zero-add _ ∙ front-length))
+        rw is (take-put l 0 (frontOf s k seqNum payload) (fixedBytes + length (k .keyId) + length payload) (omega arith) (zero-add _ ∙ front-length))
 
     -- and the ICV comes behind it
-    pub sealed-written : {more : List ℕ} (icv n : ℕ) → icv ≡ icvOf s (keyWords (k .key)) (k .source) seqNum (take (9 + length (k .keyId) + length payload) done) → n ≡ icvLengthOf s
-        → more ≡ put done (9 + length (k .keyId) + length payload) (bytesOf n icv) → more ≡ put l 0 (sealed s k seqNum payload)
+    pub sealed-written : {more : List ℕ} (icv n : ℕ) → icv ≡ icvOf s (keyWords (k .key)) (k .source) seqNum (take (fixedBytes + length (k .keyId) + length payload) done) → n ≡ icvLengthOf s
+        → more ≡ put done (fixedBytes + length (k .keyId) + length payload) (bytesOf n icv) → more ≡ put l 0 (sealed s k seqNum payload)
     unfolding sealed
     sealed-written icv n right long written =
-        let front : Written l 0 (frontOf s k seqNum payload) done (9 + length (k .keyId) + length payload) =
+        let front : Written l 0 (frontOf s k seqNum payload) done (fixedBytes + length (k .keyId) + length payload) =
         record { ends = sym (zero-add _ ∙ front-length); is = is } in
         let check = icvOf s (keyWords (k .key)) (k .source) seqNum (frontOf s k seqNum payload) in
         and-then front (omega arith) (bytesOf (icvLengthOf s) check) _ refl (written ∙ rw (long, right, front-taken)) .is

@@ -14,7 +14,7 @@ use Rattle.magma.specs.Magma.{keyWords}
 use Rattle.format.specs.KeyId.{lengthOf}
 use Rattle.format.specs.Suite.{icvLengthOf}
 use Rattle.format.specs.KeyData.{KeyData}
-use Rattle.format.specs.Header.{readOf, headerBytes, payloadLength, payloadIn}
+use Rattle.format.specs.Header.{greatestMessage, fixedBytes, readOf, headerBytes, payloadLength, payloadIn}
 use Rattle.message.specs.Sealing.{icvOf, enciphered, frontOf, sealed, right, opened, openedUnder}
 use Rattle.format.specs.declared.header.Parsed.the-variants.{Read}
 use Rattle.format.specs.declared.suite.Suite.{Suite}
@@ -38,7 +38,7 @@ module _ (s : Suite) (k : KeyData) (seqNum : ℕ) (payload : List ℕ) where
   abbrev icv : ℕ
   icv = icvOf s (keyWords (k .key)) (k .source) seqNum front
 
-  pub sealed-length : length (sealed s k seqNum payload) ≡ 9 + length (k .keyId) + length payload + icvLengthOf s
+  pub sealed-length : length (sealed s k seqNum payload) ≡ fixedBytes + length (k .keyId) + length payload + icvLengthOf s
   unfolding sealed
   sealed-length = rw (length-append, length-bytes, front-length s k seqNum payload)
 
@@ -58,7 +58,7 @@ module _ (s : Suite) (k : KeyData) (seqNum : ℕ) (payload : List ℕ) where
   unfolding sealed
   icv-there = drop-at front (bytesOf (icvLengthOf s) icv) (length message - icvLengthOf s) icv-place
 
-  module _ (w : Writable (k .flag) (k .keyId) seqNum) (short : 9 + length (k .keyId) + length payload + icvLengthOf s ≤ 2048) where
+  module _ (w : Writable (k .flag) (k .keyId) seqNum) (short : fixedBytes + length (k .keyId) + length payload + icvLengthOf s ≤ greatestMessage) where
     pub sealed-reads : readOf (sealed s k seqNum payload) ≡ Read (headerFor (k .flag) s (k .keyId) seqNum)
     sealed-reads =
         let rest : length (sent ++ bytesOf (icvLengthOf s) icv) ≡ length payload + icvLengthOf s =
@@ -75,7 +75,7 @@ module _ (s : Suite) (k : KeyData) (seqNum : ℕ) (payload : List ℕ) where
         same-right c refl
 
     -- where the payload begins
-    payload-place : 9 + lengthOf (headerFor (k .flag) s (k .keyId) seqNum .keyid) ≡ 9 + length (k .keyId)
+    payload-place : fixedBytes + lengthOf (headerFor (k .flag) s (k .keyId) seqNum .keyid) ≡ fixedBytes + length (k .keyId)
     payload-place = omega (arith, w .keyid-length, length-anywhere (getD (k .keyId) 0 0) 3)
 
     pub sealed-payload-length : payloadLength (headerFor (k .flag) s (k .keyId) seqNum) (sealed s k seqNum payload) ≡ length payload
@@ -84,7 +84,7 @@ module _ (s : Suite) (k : KeyData) (seqNum : ℕ) (payload : List ℕ) where
     payload-there : payloadIn (headerFor (k .flag) s (k .keyId) seqNum) message ≡ sent
     payload-there =
         rw (sealed-payload-length, payload-place, in-parts)
-        (ap (take (length payload)) (drop-at (headerBytes (k .flag) s (k .keyId) seqNum) (sent ++ bytesOf (icvLengthOf s) icv) (9 + length (k .keyId)) (header-length (k .flag) s (k .keyId) seqNum))
+        (ap (take (length payload)) (drop-at (headerBytes (k .flag) s (k .keyId) seqNum) (sent ++ bytesOf (icvLengthOf s) icv) (fixedBytes + length (k .keyId)) (header-length (k .flag) s (k .keyId) seqNum))
         ∙ take-at sent (bytesOf (icvLengthOf s) icv) (length payload) (enciphered-length s (keyWords (k .key)) (k .source) seqNum payload))
 
     pub sealed-opens : opened (headerFor (k .flag) s (k .keyId) seqNum) k (sealed s k seqNum payload) ≡ payload

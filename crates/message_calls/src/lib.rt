@@ -1,14 +1,13 @@
 // What a script's commands do with derived keys and whole messages, under a key and a source. Where the operands are such that there is no message or
-// payload, a function answers the length of the whole output.
+// payload, a function answers the length of the longest message, which is that of the output.
 use format::header;
+use format::header::GREATEST;
 use format::header::Parsed;
 use format::key_data::Terms;
 use format::suite::Numbered;
 use format::suite::Suite;
 use message::sealing;
 use message::sealing::Opened;
-
-const WHOLE: usize = 2048;
 
 // The words of the key that is the first operand.
 pub fn key(operands: &[u8]) -> [u32; 8] {
@@ -48,24 +47,24 @@ fn pair(high: u32, low: u32) -> u64 {
 pub fn seal(operands: &[u8], out: &mut [u8]) -> usize {
     let key = script::operand(operands, 0);
     if key.len() != 32 {
-        return WHOLE;
+        return GREATEST;
     }
     let source = script::operand(operands, 1);
     if 32 < source.len() {
-        return WHOLE;
+        return GREATEST;
     }
     let numbered = Suite::numbered(script::byte(operands, 2));
     let Numbered::Known(suite) = numbered else {
-        return WHOLE;
+        return GREATEST;
     };
     let keyid = script::operand(operands, 5);
     let payload = script::operand(operands, 6);
     let room = header::FIXED + keyid.len() + payload.len();
     if out.len() < room {
-        return WHOLE;
+        return GREATEST;
     }
     if out.len() - room < suite.icv_length() {
-        return WHOLE;
+        return GREATEST;
     }
     let terms = Terms {
         flag: script::byte(operands, 4) % 2,
@@ -87,29 +86,29 @@ pub fn seal(operands: &[u8], out: &mut [u8]) -> usize {
 pub fn open(operands: &[u8], message: &[u8], out: &mut [u8]) -> usize {
     let key = script::operand(operands, 0);
     if key.len() != 32 {
-        return WHOLE;
+        return GREATEST;
     }
     let source = script::operand(operands, 1);
     if 32 < source.len() {
-        return WHOLE;
+        return GREATEST;
     }
     if out.len() < message.len() {
-        return WHOLE;
+        return GREATEST;
     }
     let parsed = header::read_header(message);
     let Parsed::Read(read) = parsed else {
-        return WHOLE;
+        return GREATEST;
     };
     let found = sealing::open(read, key, source, message, out);
     let Opened::Payload(length) = found else {
-        return WHOLE;
+        return GREATEST;
     };
     length
 }
 
 // The message of `seal`, from a place on. Answers twice the length of what it opens to, and 1 more if that is the payload.
 pub fn show_sealed(line: &[u8], operands: &[u8]) -> u64 {
-    let mut out = [0u8; WHOLE];
+    let mut out = [0u8; GREATEST];
     let end = seal(operands, &mut out);
     let message = script::part(&out, 0, end);
     script::show(
@@ -120,7 +119,7 @@ pub fn show_sealed(line: &[u8], operands: &[u8]) -> u64 {
 }
 
 fn again(operands: &[u8], message: &[u8]) -> u64 {
-    let mut out = [0u8; WHOLE];
+    let mut out = [0u8; GREATEST];
     let length = open(operands, message, &mut out);
     let payload = script::part(&out, 0, length);
     if octets::equal(payload, script::operand(operands, 6)) {
@@ -131,7 +130,7 @@ fn again(operands: &[u8], message: &[u8]) -> u64 {
 
 // Message: the payload.
 pub fn show_opened(line: &[u8], operands: &[u8]) {
-    let mut out = [0xaau8; WHOLE];
+    let mut out = [0xaau8; GREATEST];
     let length = open(operands, script::operand(operands, 2), &mut out);
     script::show(line, script::part(&out, 0, length));
 }

@@ -1,5 +1,7 @@
 // 01's program: the key data of appendix A.2 is installed with Size 4, one message is read from standard input, and the reply and the entry
 // are printed.
+use answers::OUTPUT;
+use format::header::GREATEST;
 use libc::STDIN_FILENO;
 use libc::STDOUT_FILENO;
 use slots::layout::TABLE;
@@ -11,10 +13,7 @@ const SUITE: u8 = 2;
 const SIZE: u64 = 4;
 
 // One byte more than a message may have, so that a longer one is seen to be so.
-const ROOM: usize = 2049;
-
-// What payload and listing are given.
-const OUTPUT: usize = 2048;
+const ROOM: usize = GREATEST + 1;
 
 fn main() {
     let source = appendix::SOURCE;

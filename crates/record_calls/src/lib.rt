@@ -2,6 +2,8 @@
 ghost use mathlib.Core.Path.{_≡_};
 ghost use Prim.Native.Nat.{_≤_};
 ghost use lib.ListN.{length};
+ghost use Rattle.answers.specs.Answers.{outputRoom};
+use answers::OUTPUT;
 use sender::Keys;
 use sender::Protected;
 use sender::Sender;
@@ -9,7 +11,7 @@ use sender::Sender;
 // Flag, KeyId, source, suite, key, number, payload, and by how many bytes the output falls short of 2,048. Shown is
 // 6 the reply, 7 the number after the call, 8 the message.
 pub fn run(command: usize, line: &[u8], operands: &[u8]) {
-    let mut out = [0u8; 2048];
+    let mut out = [0u8; OUTPUT];
     let done = protect(operands, &mut out);
     match command {
         6 => script::show_number(line, done.answer.reply),
@@ -20,9 +22,9 @@ pub fn run(command: usize, line: &[u8], operands: &[u8]) {
 
 // The payload's message.
 fn protect(operands: &[u8], out: &mut [u8]) -> Protected
-    requires { ⌜ length (now out) ≡ 2048 ⌝ }
+    requires { ⌜ length (now out) ≡ outputRoom ⌝ }
 {
-    let length = 2048 - (script::byte(operands, 7) as usize);
+    let length = OUTPUT - (script::byte(operands, 7) as usize);
     let keys = keys(operands);
     let sender = Sender {
         keys: keys,

@@ -1,4 +1,5 @@
 // Calls on the table. Each answers its reply.
+use answers::OUTPUT;
 use slots::layout::TABLE;
 
 pub fn reply(command: usize, operands: &[u8], table: &mut [u8; TABLE]) -> u64 {
@@ -39,8 +40,8 @@ fn remove(operands: &[u8], table: &mut [u8; TABLE]) -> u64 {
 
 // A message, the source that came with it, and by how many bytes the output falls short of 2,048.
 fn receive(operands: &[u8], table: &mut [u8; TABLE]) -> u64 {
-    let mut out = [0u8; 2048];
-    let length = 2048 - (script::byte(operands, 2) as usize);
+    let mut out = [0u8; OUTPUT];
+    let length = OUTPUT - (script::byte(operands, 2) as usize);
     let answer = gateway::receive(
         table,
         script::operand(operands, 0),
