@@ -6,7 +6,7 @@ use mathlib.Core.List.{List}
 use Prim.Native.Nat.{ℕ}
 use Rattle.window.specs.Window.{Frame, soundFrame}
 use Rattle.numbers.proofs.Tests.{and-left, and-right, and-both}
-use Rattle.answers.specs.Answers.{refused}
+use Rattle.answers.specs.Answers.{refused, unsound}
 use Rattle.format.specs.KeyData.{soundOf, KeyData}
 use Rattle.lookup.specs.Lookup.{leadsTo, firstFree}
 use Rattle.entries.specs.Fresh.{freshSlot}
@@ -23,11 +23,11 @@ pub fair-facts : (k : KeyData) (f : Frame) → (soundOf k && soundFrame f) ≡ t
 fair-facts k f h = record { sound = and-left (soundOf k) (soundFrame f) h; framed = and-right (soundOf k) (soundFrame f) h }
 
 module _ (t : List ℕ) (k : KeyData) (f : Frame) where
-  pub installs-unfair : (soundOf k && soundFrame f) ≡ false → installed t k f ≡ record { answer = refused 13; table = t }
+  pub installs-unfair : (soundOf k && soundFrame f) ≡ false → installed t k f ≡ record { answer = refused unsound; table = t }
   unfolding installed
   installs-unfair e = rw e
 
-  pub installs-not : (Fair k f → ⊥) → installed t k f ≡ record { answer = refused 13; table = t }
+  pub installs-not : (Fair k f → ⊥) → installed t k f ≡ record { answer = refused unsound; table = t }
   installs-not bad = installs-unfair (not-eq-not .0 (λ h. bad (fair-facts k f h)))
 
   pub installs : Fair k f → installed t k f ≡ unlessTwin t (freshSlot k f) (leadsTo t (k .flag) (k .keyId) (k .source))

@@ -3,7 +3,7 @@ use mathlib.Core.Bool.{cond, _&&_}
 use mathlib.Core.List.{List}
 use Prim.Native.Nat.{ℕ}
 use lib.Dec.{ltb}
-use Rattle.answers.specs.Answers.{refused}
+use Rattle.answers.specs.Answers.{refused, unsound, twin, full, noSlot}
 use Rattle.answers.specs.declared.Answer.{Answer}
 use Rattle.format.specs.KeyData.{KeyData, soundOf}
 use Rattle.window.specs.Window.{Frame, soundFrame}
@@ -25,20 +25,20 @@ doneAt i = record { reply = 0; length = 0; slot = i; seqnum = 0 }
 -- "Install takes the lowest free slot, freed ones included, and starts fresh"
 abbrev pub placed : List ℕ → List ℕ → Found → Left
 placed t fresh (At i) = record { answer = doneAt i; table = replaced t i fresh }
-placed t fresh Nothing = record { answer = refused 15; table = t }
+placed t fresh Nothing = record { answer = refused full; table = t }
 
 -- where no occupied slot has the same flag and KeyId and, for flag 1, source
 abbrev pub unlessTwin : List ℕ → List ℕ → Found → Left
-unlessTwin t fresh (At i) = record { answer = refused 14; table = t }
+unlessTwin t fresh (At i) = record { answer = refused twin; table = t }
 unlessTwin t fresh Nothing = placed t fresh (firstFree t)
 
 unfoldable pub installed : List ℕ → KeyData → Frame → Left
 installed t k f =
     cond (soundOf k && soundFrame f) (unlessTwin t (freshSlot k f) (leadsTo t (k .flag) (k .keyId) (k .source)))
-    (record { answer = refused 13; table = t })
+    (record { answer = refused unsound; table = t })
 
 -- "16: slot over 15, or free"; "A freed slot holds zeros only"
 unfoldable pub removed : List ℕ → ℕ → Left
 removed t i =
     cond (ltb i slotCount && occupied (slotOf t i)) (record { answer = doneAt i; table = replaced t i emptySlot })
-    (record { answer = refused 16; table = t })
+    (record { answer = refused noSlot; table = t })

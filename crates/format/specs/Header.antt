@@ -4,6 +4,7 @@ use mathlib.Core.List.{List, _++_}
 use Prim.Native.Nat.{ℕ, _+_, _-_, _*_, _/_, _%_, _^_}
 use lib.Dec.{eqb, ltb}
 use lib.ListN.{length, getD, drop}
+use Rattle.answers.specs.Answers.{badLength, badVersion, badSuite, tooShort}
 use Rattle.octets.specs.Octets.{bigEndian, bytesOf, part}
 use Rattle.format.specs.KeyId.{keyIdStarting, lengthOf}
 use Rattle.format.specs.Suite.{suiteOf, numberOf, icvLengthOf}
@@ -62,10 +63,10 @@ readOf m =
 -- the reply to a header that cannot be read
 abbrev pub refusalOf : Parsed → ℕ
 refusalOf (Read h) = 0
-refusalOf BadLength = 2
-refusalOf BadVersion = 3
-refusalOf BadSuite = 4
-refusalOf TooShort = 5
+refusalOf BadLength = badLength
+refusalOf BadVersion = badVersion
+refusalOf BadSuite = badSuite
+refusalOf TooShort = tooShort
 
 -- the KeyId bytes of a message
 abbrev pub keyIdBytes : Header → List ℕ → List ℕ

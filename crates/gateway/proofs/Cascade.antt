@@ -8,7 +8,7 @@ use native.Mathlib.Omega.{arith}
 use lib.Dec.{eqb, ltb, lit≤}
 use lib.ListN.{length}
 use Rattle.numbers.proofs.Tests.{either}
-use Rattle.answers.specs.Answers.{outputRoom}
+use Rattle.answers.specs.Answers.{outputRoom, outputSmall, badLength, badVersion, badSuite, tooShort, noEntry, damaged, otherSuite, belowFloor, repeated, wrongIcv}
 use Rattle.window.specs.Window.{verdictOf}
 use Rattle.window.specs.declared.Verdict.{Verdict}
 use Rattle.window.specs.declared.Verdict.the-variants.{Below, Marked, Admissible}
@@ -34,38 +34,38 @@ module _ (P : Received → Type 0) (t out : List ℕ) where
   module _ (i : ℕ) (h : Header) (m : List ℕ) (done : P (handedOut t i h m out)) where
     by-verdict : ((n : ℕ) → 8 ≤ n → P (kept t out n)) → (v : Verdict) → P (judged v t i h m out)
     unfolding checked
-    by-verdict refused Below = refused 9 (lit≤ tt)
-    by-verdict refused Marked = refused 10 (lit≤ tt)
+    by-verdict refused Below = refused belowFloor (lit≤ tt)
+    by-verdict refused Marked = refused repeated (lit≤ tt)
     by-verdict refused Admissible =
-        either P (right h (keyDataOf (slotOf t i)) m) (handedOut t i h m out) (kept t out 11) (λ _. done) (λ _. refused 11 (lit≤ tt))
+        either P (right h (keyDataOf (slotOf t i)) m) (handedOut t i h m out) (kept t out wrongIcv) (λ _. done) (λ _. refused wrongIcv (lit≤ tt))
 
     -- that is undamaged
     pub of-undamaged : ((n : ℕ) → 8 ≤ n → P (kept t out n))
-        → P (cond (eqb (csOf (slotOf t i)) (numberOf (h .suite))) (judged (verdictOf (windowOf (slotOf t i)) (h .seqnum)) t i h m out) (kept t out 8))
+        → P (cond (eqb (csOf (slotOf t i)) (numberOf (h .suite))) (judged (verdictOf (windowOf (slotOf t i)) (h .seqnum)) t i h m out) (kept t out otherSuite))
     of-undamaged refused =
-        either P (eqb (csOf (slotOf t i)) (numberOf (h .suite))) (judged (verdictOf (windowOf (slotOf t i)) (h .seqnum)) t i h m out) (kept t out 8)
-        (λ _. by-verdict refused (verdictOf (windowOf (slotOf t i)) (h .seqnum))) (λ _. refused 8 (lit≤ tt))
+        either P (eqb (csOf (slotOf t i)) (numberOf (h .suite))) (judged (verdictOf (windowOf (slotOf t i)) (h .seqnum)) t i h m out) (kept t out otherSuite)
+        (λ _. by-verdict refused (verdictOf (windowOf (slotOf t i)) (h .seqnum))) (λ _. refused otherSuite (lit≤ tt))
 
     -- or not
     pub of-arrived : ((n : ℕ) → 1 ≤ n → P (kept t out n)) → P (arrived t i h m out)
     unfolding arrived
-    of-arrived refused = either P (undamaged (slotOf t i)) _ (kept t out 7) (λ _. of-undamaged (λ n l. refused n (omega arith))) (λ _. refused 7 (lit≤ tt))
+    of-arrived refused = either P (undamaged (slotOf t i)) _ (kept t out damaged) (λ _. of-undamaged (λ n l. refused n (omega arith))) (λ _. refused damaged (lit≤ tt))
 
   module _ (refused : (n : ℕ) → 1 ≤ n → P (kept t out n)) (done : (i : ℕ) (h : Header) (m : List ℕ) → P (handedOut t i h m out)) where
     of-led : (f : Found) (h : Header) (m : List ℕ) → P (led f t h m out)
-    of-led Nothing h m = refused 6 (lit≤ tt)
+    of-led Nothing h m = refused noEntry (lit≤ tt)
     of-led (At i) h m = of-arrived i h m (done i h m) refused
 
     of-parsed : (p : Parsed) (m source : List ℕ) → P (parsed p t m source out)
     of-parsed (Read h) m source = of-led (leadsTo t (h .flag) (keyIdBytes h m) source) h m
-    of-parsed BadLength m source = refused 2 (lit≤ tt)
-    of-parsed BadVersion m source = refused 3 (lit≤ tt)
-    of-parsed BadSuite m source = refused 4 (lit≤ tt)
-    of-parsed TooShort m source = refused 5 (lit≤ tt)
+    of-parsed BadLength m source = refused badLength (lit≤ tt)
+    of-parsed BadVersion m source = refused badVersion (lit≤ tt)
+    of-parsed BadSuite m source = refused badSuite (lit≤ tt)
+    of-parsed TooShort m source = refused tooShort (lit≤ tt)
 
     pub of-received : (m source : List ℕ) → P (received t m source out)
     unfolding received
-    of-received m source = either P (ltb (length out) outputRoom) (kept t out 1) _ (λ _. refused 1 (lit≤ tt)) (λ _. of-parsed (readOf m) m source)
+    of-received m source = either P (ltb (length out) outputRoom) (kept t out outputSmall) _ (λ _. refused outputSmall (lit≤ tt)) (λ _. of-parsed (readOf m) m source)
 
 -- an arrival at an undamaged record is not answered 7
 pub record NotSeven (r : Received) : Type 0 where
@@ -93,20 +93,20 @@ module _ (t : List ℕ) (long : length t ≡ tableLength) where
       record { is = ap length (as-replaced t i e long small) ∙ length-replaced t i (settledSlot t i e long small) long small (length-slot t i e long small) }
 
   by-slot : (h : Header) (m source out : List ℕ) (f : Found) → leadsTo t (h .flag) (keyIdBytes h m) source ≡ f → Long (led f t h m out)
-  by-slot h m source out Nothing l = refused out 6
+  by-slot h m source out Nothing l = refused out noEntry
   by-slot h m source out (At i) l = of-arrived Long t out i h m (done h m source out i l) (λ n some. refused out n)
 
   by-header : (m source out : List ℕ) (p : Parsed) → Long (parsed p t m source out)
   by-header m source out (Read h) = by-slot h m source out (leadsTo t (h .flag) (keyIdBytes h m) source) refl
-  by-header m source out BadLength = refused out 2
-  by-header m source out BadVersion = refused out 3
-  by-header m source out BadSuite = refused out 4
-  by-header m source out TooShort = refused out 5
+  by-header m source out BadLength = refused out badLength
+  by-header m source out BadVersion = refused out badVersion
+  by-header m source out BadSuite = refused out badSuite
+  by-header m source out TooShort = refused out tooShort
 
   long-received : (m source out : List ℕ) → Long (received t m source out)
   unfolding received
   long-received m source out =
-      either Long (ltb (length out) outputRoom) (kept t out 1) (parsed (readOf m) t m source out) (λ _. refused out 1) (λ _. by-header m source out (readOf m))
+      either Long (ltb (length out) outputRoom) (kept t out outputSmall) (parsed (readOf m) t m source out) (λ _. refused out outputSmall) (λ _. by-header m source out (readOf m))
 
   pub received-length : (m source out : List ℕ) → length (received t m source out .table) ≡ tableLength
   received-length m source out = long-received m source out .is

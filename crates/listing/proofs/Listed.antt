@@ -12,7 +12,7 @@ use lib.ListN.{length, getD, take, drop, length-append, length-take, length-drop
 use Rattle.octets.specs.Octets.{bytesOf, part, put}
 use Rattle.numbers.proofs.Tests.{either}
 use Rattle.octets.proofs.BigEndian.{length-bytes}
-use Rattle.answers.specs.Answers.{refused, outputRoom}
+use Rattle.answers.specs.Answers.{refused, outputRoom, outputSmall, damaged, noSlot}
 use Rattle.answers.specs.declared.Answer.{Answer}
 use Rattle.slots.specs.Table.{slotOf, occupied, flagOf, csOf, keyIdLengthOf, keyIdOf, sourceLengthOf, sourceOf, entryOf, slotLength, slotCount, occupiedAt, keyIdAt, sourceAt}
 use Rattle.slots.specs.Record.{undamaged}
@@ -30,12 +30,12 @@ abbrev Comes : List ℕ → ℕ → List ℕ → Answer → List ℕ → Type 0
 Comes t i out r o = (r ≡ listed t i out .answer) × (o ≡ listed t i out .out)
 
 module _ (t : List ℕ) (i : ℕ) (out : List ℕ) where
-  pub little-room : {r : Answer} → length out < outputRoom → r ≡ refused 1 → Comes t i out r out
+  pub little-room : {r : Answer} → length out < outputRoom → r ≡ refused outputSmall → Comes t i out r out
   unfolding listed
   little-room h e = rw (lt-ltb (length out) outputRoom h) (e, refl)
 
   module _ (room : outputRoom ≤ length out) where
-    pub no-slot : {r : Answer} → slotCount ≤ i → r ≡ refused 16 → Comes t i out r out
+    pub no-slot : {r : Answer} → slotCount ≤ i → r ≡ refused noSlot → Comes t i out r out
     unfolding listed
     no-slot h e = rw (le-ltb (length out) outputRoom room, le-ltb i slotCount h) (e, refl)
 
@@ -43,7 +43,7 @@ module _ (t : List ℕ) (i : ℕ) (out : List ℕ) where
       first : getD (slotOf t i) occupiedAt 0 ≡ getD t (slotLength * i) 0
       first = slot-byte t i occupiedAt (omega arith) ∙ rw add-zero
 
-      pub free-slot : {r : Answer} → getD t (slotLength * i) 0 ≡ 0 → r ≡ refused 16 → Comes t i out r out
+      pub free-slot : {r : Answer} → getD t (slotLength * i) 0 ≡ 0 → r ≡ refused noSlot → Comes t i out r out
       unfolding listed
       free-slot h e = rw (le-ltb (length out) outputRoom room, eq-eqb (getD (slotOf t i) occupiedAt 0) 0 (first ∙ h), and-false) (e, refl)
 
@@ -51,7 +51,7 @@ module _ (t : List ℕ) (i : ℕ) (out : List ℕ) where
         busy : getD (slotOf t i) occupiedAt 0 ≡ 0 → ⊥
         busy z = taken (sym first ∙ z)
 
-        pub listing-damaged : {r : Answer} → undamaged (lent t i) ≡ false → r ≡ refused 7 → Comes t i out r out
+        pub listing-damaged : {r : Answer} → undamaged (lent t i) ≡ false → r ≡ refused damaged → Comes t i out r out
         unfolding listed
         listing-damaged u e =
             rw (le-ltb (length out) outputRoom room, lt-ltb i slotCount small, ne-eqb (getD (slotOf t i) occupiedAt 0) 0 busy, rw (slot-lent t i) at u) (e, refl)

@@ -7,7 +7,7 @@ use lib.Dec.{ltb}
 use lib.ListN.{length}
 use Rattle.octets.specs.Octets.{bytesOf, put}
 use Rattle.text.specs.Text.{decimalLine, hexLine}
-use Rattle.answers.specs.Answers.{refused, outputRoom}
+use Rattle.answers.specs.Answers.{refused, outputRoom, outputSmall, damaged, noSlot}
 use Rattle.answers.specs.declared.Answer.{Answer}
 use Rattle.slots.specs.Table.{slotOf, occupied, flagOf, csOf, keyIdOf, sourceOf, entryOf, slotCount}
 use Rattle.slots.specs.Record.{undamaged}
@@ -73,9 +73,9 @@ pub record Listed : Type 0 where
 -- 1: output buffer under 2,048 bytes; 16: slot over 15, or free; 7: record damaged. Done, it answers the text's length and the slot.
 unfoldable pub listed : List ℕ → ℕ → List ℕ → Listed
 listed t i out =
-    cond (ltb (length out) outputRoom) (record { answer = refused 1; out = out })
+    cond (ltb (length out) outputRoom) (record { answer = refused outputSmall; out = out })
     (cond (ltb i slotCount && occupied (slotOf t i))
     (cond (undamaged (slotOf t i))
     (record { answer = record { reply = 0; length = length (listingOf i (slotOf t i)); slot = i; seqnum = 0 }; out = put out 0 (listingOf i (slotOf t i)) })
-    (record { answer = refused 7; out = out }))
-    (record { answer = refused 16; out = out }))
+    (record { answer = refused damaged; out = out }))
+    (record { answer = refused noSlot; out = out }))

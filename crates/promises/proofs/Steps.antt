@@ -9,7 +9,7 @@ use native.Mathlib.Omega.{arith}
 use borrow.Author.Tests.{eqb-true, eqb-false, eq-eqb, ne-eqb, not-false}
 use lib.Dec.{eqb, ltb, lit≤}
 use lib.ListN.{length, getD, length-replicate}
-use Rattle.answers.specs.Answers.{outputRoom}
+use Rattle.answers.specs.Answers.{outputRoom, outputSmall}
 use Rattle.octets.specs.Octets.{Bytes, put}
 use Rattle.window.specs.Window.{floorAt, judge, verdictOf}
 use Rattle.window.specs.Entry.{Entry, taken}
@@ -183,7 +183,7 @@ module _ {k : Framed} {i : ℕ} (v : Sane k i) {t : List ℕ} {past : List Messa
     arrives = by (ltb (length out) outputRoom)
       where
         by : (x : Bool)
-            → Meets k i t past m out (provided new (cond x nothing (genuine (k .keys) (readOf m) m source))) (cond x (kept t out 1) (parsed (readOf m) t m source out))
+            → Meets k i t past m out (provided new (cond x nothing (genuine (k .keys) (readOf m) m source))) (cond x (kept t out outputSmall) (parsed (readOf m) t m source out))
         by true = refusing m out 1 (lit≤ tt)
         by false = reads (readOf m) refl
 

@@ -6,7 +6,7 @@ use mathlib.Core.List.{List}
 use Prim.Native.Nat.{ℕ, _+_, _-_, _^_, _≤_, _<_}
 use borrow.Author.Tests.{lt-ltb, le-ltb, eq-eqb, ne-eqb}
 use lib.ListN.{length}
-use Rattle.answers.specs.Answers.{outputRoom}
+use Rattle.answers.specs.Answers.{outputRoom, outputSmall, badLength, damaged, noNumber}
 use Rattle.octets.specs.Octets.{put}
 use Rattle.format.specs.Suite.{suiteOf}
 use Rattle.format.specs.declared.suite.Numbered.the-variants.{Known, Unknown}
@@ -27,16 +27,16 @@ module _ (s : Sender) (payload out : List ℕ) where
   unfolding sent
   sends suite n count e a f = record { answers = rw (e, a); moves = rw e; writes = rw e f }
 
-  pub no-room : length out < outputRoom → outcomeOf s payload out ≡ refusal 1 s out
+  pub no-room : length out < outputRoom → outcomeOf s payload out ≡ refusal outputSmall s out
   unfolding outcomeOf
   no-room h = rw (lt-ltb (length out) outputRoom h)
 
   module _ (room : outputRoom ≤ length out) where
-    pub unsound-record : soundRecord (s .keys) ≡ false → outcomeOf s payload out ≡ refusal 7 s out
+    pub unsound-record : soundRecord (s .keys) ≡ false → outcomeOf s payload out ≡ refusal damaged s out
     unfolding outcomeOf
     unsound-record h = rw (le-ltb (length out) outputRoom room, h)
 
-    pub over : 2 ^ 48 ≤ s .current → outcomeOf s payload out ≡ refusal 7 s out
+    pub over : 2 ^ 48 ≤ s .current → outcomeOf s payload out ≡ refusal damaged s out
     unfolding outcomeOf
     over h = rw (le-ltb (length out) outputRoom room, le-ltb (s .current) (2 ^ 48) h, and-false)
 
@@ -45,15 +45,15 @@ module _ (s : Sender) (payload out : List ℕ) where
       unfolding outcomeOf
       within = rw (le-ltb (length out) outputRoom room, sound, lt-ltb (s .current) (2 ^ 48) small)
 
-      pub unknown : Unknown ≡ suiteOf (s .keys .suite) → outcomeOf s payload out ≡ refusal 7 s out
+      pub unknown : Unknown ≡ suiteOf (s .keys .suite) → outcomeOf s payload out ≡ refusal damaged s out
       unknown e = within ∙ rw (← e)
 
       module _ (suite : Suite) (known : Known suite ≡ suiteOf (s .keys .suite)) where
-        pub too-long : payloadLimit suite (s .keys) < length payload → outcomeOf s payload out ≡ refusal 2 s out
+        pub too-long : payloadLimit suite (s .keys) < length payload → outcomeOf s payload out ≡ refusal badLength s out
         too-long h = within ∙ rw (← known, lt-ltb (payloadLimit suite (s .keys)) (length payload) h)
 
         module _ (fits : length payload ≤ payloadLimit suite (s .keys)) where
-          pub ended : s .current ≡ 2 ^ 48 - 1 → outcomeOf s payload out ≡ refusal 12 s out
+          pub ended : s .current ≡ 2 ^ 48 - 1 → outcomeOf s payload out ≡ refusal noNumber s out
           ended h = within ∙ rw (← known, le-ltb (payloadLimit suite (s .keys)) (length payload) fits, eq-eqb (s .current) (2 ^ 48 - 1) h)
 
           pub goes : (s .current ≡ 2 ^ 48 - 1 → ⊥) → outcomeOf s payload out ≡ sent suite (s .keys) (s .current + 1) payload out

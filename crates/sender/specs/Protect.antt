@@ -7,7 +7,7 @@ use lib.Dec.{eqb, leb, ltb}
 use lib.ListN.{length, take}
 use Rattle.format.specs.Header.{greatestMessage, fixedBytes}
 use Rattle.octets.specs.Octets.{put}
-use Rattle.answers.specs.Answers.{refused, outputRoom}
+use Rattle.answers.specs.Answers.{refused, outputRoom, outputSmall, badLength, damaged, noNumber}
 use Rattle.format.specs.KeyData.{KeyData, handedIn, soundOf}
 use Rattle.format.specs.Suite.{suiteOf, icvLengthOf}
 use Rattle.message.specs.Sealing.{sealed}
@@ -66,16 +66,16 @@ payloadLimit suite d = greatestMessage - (fixedBytes + length (keyDataIn d .keyI
 
 -- 2: payload over 2,035 − L; 12: current number is 2^48 − 1. "Protect adds 1 to the current number and uses the result."
 abbrev pub numbered : Numbered → Sender → List ℕ → List ℕ → Outcome
-numbered Unknown s payload out = refusal 7 s out
+numbered Unknown s payload out = refusal damaged s out
 numbered (Known suite) s payload out =
-    cond (ltb (payloadLimit suite (s .keys)) (length payload)) (refusal 2 s out)
-    (cond (eqb (s .current) (2 ^ 48 - 1)) (refusal 12 s out) (sent suite (s .keys) (s .current + 1) payload out))
+    cond (ltb (payloadLimit suite (s .keys)) (length payload)) (refusal badLength s out)
+    (cond (eqb (s .current) (2 ^ 48 - 1)) (refusal noNumber s out) (sent suite (s .keys) (s .current + 1) payload out))
 
 -- 1: output buffer under 2,048 bytes; 7: unsound key data, or current over 2^48 − 1
 unfoldable pub outcomeOf : Sender → List ℕ → List ℕ → Outcome
 outcomeOf s payload out =
-    cond (ltb (length out) outputRoom) (refusal 1 s out)
-    (cond (soundRecord (s .keys) && ltb (s .current) (2 ^ 48)) (numbered (suiteOf (s .keys .suite)) s payload out) (refusal 7 s out))
+    cond (ltb (length out) outputRoom) (refusal outputSmall s out)
+    (cond (soundRecord (s .keys) && ltb (s .current) (2 ^ 48)) (numbered (suiteOf (s .keys .suite)) s payload out) (refusal damaged s out))
 
 -- that an answer, a record and an output are those that a call leaves
 pub record Protects (s : Sender) (payload out : List ℕ) (answer : Answer) (after : Sender) (written : List ℕ) : Type 0 where

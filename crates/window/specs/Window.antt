@@ -47,12 +47,6 @@ judge false false = Admissible
 abbrev pub verdictOf : View → ℕ → Verdict
 verdictOf w n = judge (ltb n (floorOf w)) (marked w n)
 
--- The reply to a number: 9 below the floor, 10 marked.
-abbrev pub replyOf : Verdict → ℕ
-replyOf Below = 9
-replyOf Marked = 10
-replyOf Admissible = 0
-
 -- The marks under a new highest number: each moves up by as much as highest rises, and those below the new floor go. (A rise of Size or more
 -- moves them all below it, so the distance is cut at Size.)
 unfoldable pub moved : View → ℕ → ℕ

@@ -5,7 +5,7 @@ use mathlib.Core.List.{List}
 use Prim.Native.Nat.{ℕ}
 use borrow.Author.Needs.{needs}
 use borrow.Author.Tests.{not-true, not-false}
-use Rattle.answers.specs.Answers.{refused}
+use Rattle.answers.specs.Answers.{refused, unsound}
 use Rattle.format.specs.KeyData.{KeyData, keyed}
 use Rattle.format.proofs.Soundness.{sound-facts}
 use Rattle.window.specs.Window.{Frame}
@@ -33,7 +33,7 @@ abbrev left : tie.Start → Left
 left s = installed (table s) (keys s) (frame s)
 
 -- the refusal 13
-refuses : (s : tie.Start) → (Fair (keys s) (frame s) → ⊥) → left s ≡ record { answer = refused 13; table = table s }
+refuses : (s : tie.Start) → (Fair (keys s) (frame s) → ⊥) → left s ≡ record { answer = refused unsound; table = table s }
 refuses s bad = installs-not (table s) (keys s) (frame s) bad
 
 returns : tie.Need-returns
