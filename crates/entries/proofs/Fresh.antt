@@ -14,7 +14,7 @@ use Rattle.octets.proofs.BigEndian.{length-bytes}
 use Rattle.format.proofs.Soundness.{Sound, sound-test, key-data-is}
 use Rattle.window.specs.Entry.{freshEntry}
 use Rattle.window.proofs.Entries.{UndamagedEntry, entry-test}
-use Rattle.slots.specs.Table.{flagOf, csOf, keyIdLengthOf, keyIdOf, sourceLengthOf, sourceOf, keyOf, entryOf, slotLength, occupiedAt, startAt, keyIdRoom, sourceRoom, keyDataOf}
+use Rattle.slots.specs.Table.{flagOf, csOf, keyIdLengthOf, keyIdOf, sourceLengthOf, sourceOf, keyOf, entryOf, slotLength, occupiedAt, startAt, highestAt, marksAt, acceptedAt, bytesAt, keyIdRoom, sourceRoom, keyDataOf}
 use Rattle.slots.specs.Record.{undamaged}
 use Rattle.entries.specs.Fresh.{padded, prefixed, headOf, freshSlot}
 use Rattle.entries.proofs.Bounds.{keyid-most, suite-byte}
@@ -71,10 +71,10 @@ module _ {k : KeyData} (sound : Sound k) (b : getD (k .keyId) 0 0 < 256) (f : Fr
   stretches =
       bytesOf 1 1 ∷ bytesOf 1 (k .flag) ∷ bytesOf 1 (k .suite) ∷ bytesOf 1 0
       ∷ bytesOf 1 (length (k .keyId)) ∷ padded keyIdRoom (k .keyId) ∷ bytesOf 1 (length (k .source)) ∷ padded sourceRoom (k .source)
-      ∷ k .key ∷ bytesOf 8 (f .size) ∷ replicate 82 0 ∷ []
+      ∷ k .key ∷ bytesOf 8 (f .size) ∷ replicate (slotLength - startAt) 0 ∷ []
 
   abbrev lengths : List ℕ
-  lengths = 1 ∷ 1 ∷ 1 ∷ 1 ∷ 1 ∷ 128 ∷ 1 ∷ 32 ∷ 32 ∷ 8 ∷ 82 ∷ []
+  lengths = 1 ∷ 1 ∷ 1 ∷ 1 ∷ 1 ∷ keyIdRoom ∷ 1 ∷ sourceRoom ∷ 32 ∷ 8 ∷ (slotLength - startAt) ∷ []
 
   in-stretches : freshSlot k f ≡ joined stretches
   unfolding freshSlot
@@ -106,10 +106,10 @@ module _ {k : KeyData} (sound : Sound k) (b : getD (k .keyId) 0 0 < 256) (f : Fr
   fresh-entry h =
       rw (
         number 8 (f .size) (there 9) h,
-        zeros 82 (there 10) 8 8 (lit≤ tt),
-        zeros 82 (there 10) 16 32 (lit≤ tt),
-        zeros 82 (there 10) 48 8 (lit≤ tt),
-        zeros 82 (there 10) 56 8 (lit≤ tt),
+        zeros (slotLength - startAt) (there 10) (highestAt - startAt) 8 (lit≤ tt),
+        zeros (slotLength - startAt) (there 10) (marksAt - startAt) 32 (lit≤ tt),
+        zeros (slotLength - startAt) (there 10) (acceptedAt - startAt) 8 (lit≤ tt),
+        zeros (slotLength - startAt) (there 10) (bytesAt - startAt) 8 (lit≤ tt),
       )
 
 -- a slot with sound key data is undamaged where its entry is

@@ -9,7 +9,7 @@ use native.Mathlib.Decide.{decLt}
 use native.Mathlib.Omega.{arith}
 use lib.Dec.{lit≤}
 use Rattle.window.specs.Window.{Frame, soundFrame}
-use Rattle.answers.specs.Answers.{refused}
+use Rattle.answers.specs.Answers.{refused, unsound, twin, full, noSlot}
 use Rattle.format.specs.KeyData.{soundOf, KeyData}
 use Rattle.slots.specs.Table.{slotOf, occupied, replaced, emptySlot, slotCount, slotLength, tableLength}
 use Rattle.lookup.specs.Lookup.{leadsTo, firstFree}
@@ -45,18 +45,18 @@ module _ (t : List ℕ) (k : KeyData) (f : Frame) where
   pub install-outcome : Refuses t (installed t k f) ⊎ ((i : ℕ) × Enters t k f i)
   install-outcome = by (soundOf k && soundFrame f) refl (leadsTo t (k .flag) (k .keyId) (k .source)) refl (firstFree t) refl
     where
-      by : (b : Bool) → (soundOf k && soundFrame f) ≡ b → (twin : Found) → leadsTo t (k .flag) (k .keyId) (k .source) ≡ twin
+      by : (b : Bool) → (soundOf k && soundFrame f) ≡ b → (led : Found) → leadsTo t (k .flag) (k .keyId) (k .source) ≡ led
           → (free : Found) → firstFree t ≡ free → Refuses t (installed t k f) ⊎ ((i : ℕ) × Enters t k f i)
-      by false e twin l free g = inl (record { reply = 13; some = lit≤ tt; is = installs-unfair t k f e })
+      by false e led l free g = inl (record { reply = unsound; some = lit≤ tt; is = installs-unfair t k f e })
       by true e (At j) l free g =
           inl (record {
-            reply = 14;
+            reply = twin;
             some = lit≤ tt;
             is = installs t k f (fair-facts k f e) ∙ ap (unlessTwin t fresh) l;
           })
       by true e Nothing l Nothing g =
           inl (record {
-            reply = 15;
+            reply = full;
             some = lit≤ tt;
             is = installs-alone t k f (fair-facts k f e) l ∙ ap (placed t fresh) g;
           })
@@ -81,8 +81,8 @@ pub remove-outcome : (t : List ℕ) (i : ℕ) → Refuses t (removed t i) ⊎ Fr
 remove-outcome t i = by (decLt i slotCount) (occupied (slotOf t i)) refl
   where
     by : Dec (i < slotCount) → (b : Bool) → occupied (slotOf t i) ≡ b → Refuses t (removed t i) ⊎ Frees t i
-    by (no h) b e = inl (record { reply = 16; some = lit≤ tt; is = removes-over t i (omega arith) })
-    by (yes h) false e = inl (record { reply = 16; some = lit≤ tt; is = removes-free t i e })
+    by (no h) b e = inl (record { reply = noSlot; some = lit≤ tt; is = removes-over t i (omega arith) })
+    by (yes h) false e = inl (record { reply = noSlot; some = lit≤ tt; is = removes-free t i e })
     by (yes h) true e = inr (record { small = h; held = e; is = removes t i h e })
 
 -- ---- the table stays as long as it was

@@ -15,12 +15,12 @@ use Rattle.lookup.specs.declared.Found.the-variants.{At, Nothing}
 module _ (test : ℕ → Bool) where
   -- a loop through the sixteen slots: it finds one, goes on, and ends
   pub here : (i : ℕ) → i < slotCount → test i ≡ true → firstFrom test (slotCount - i) i ≡ At i
-  here i h passes = let more : slotCount - i ≡ suc (15 - i) = omega arith in rw (more, passes)
+  here i h passes = let more : slotCount - i ≡ suc (slotCount - 1 - i) = omega arith in rw (more, passes)
 
   pub further : (i : ℕ) → i < slotCount → test i ≡ false → firstFrom test (slotCount - i) i ≡ firstFrom test (slotCount - (i + 1)) (i + 1)
   further i h fails =
-      let more : slotCount - i ≡ suc (15 - i) = omega arith in
-      let less : slotCount - (i + 1) ≡ 15 - i = omega arith in
+      let more : slotCount - i ≡ suc (slotCount - 1 - i) = omega arith in
+      let less : slotCount - (i + 1) ≡ slotCount - 1 - i = omega arith in
       rw (more, fails, less, add-one)
 
   pub nowhere : (i : ℕ) → slotCount ≤ i → firstFrom test (slotCount - i) i ≡ Nothing

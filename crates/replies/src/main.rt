@@ -23,7 +23,7 @@ fn run(list: &[u8], text: &[u8], memory: &mut [u8]) {
     let mut table = [0u8; TABLE];
     let mut at: usize = 0;
     while at < text.len() {
-        let end = script::line_end(text, at);
+        let end = script::until(text, at, b'\n');
         let line = script::part(text, at, end);
         let command = script::command(list, line, memory);
         call(command, line, memory, &mut table);

@@ -18,5 +18,5 @@ pub use operands::word;
 pub use output::not_understood;
 pub use output::show;
 pub use output::show_number;
-pub use text::line_end;
 pub use text::part;
+pub use text::until;

@@ -116,18 +116,10 @@ fn count_of(word: &[u8], star: usize) -> usize {
     if star < word.len() {
         return decimal(part(word, star + 1, word.len()));
     }
-    if is_dash(word) {
+    if octets::equal(word, b"-") {
         return 0;
     }
     word.len() / 2 + word.len() % 2
-}
-
-fn is_dash(word: &[u8]) -> bool {
-    if word.len() == 1 {
-        word[0] == b'-'
-    } else {
-        false
-    }
 }
 
 fn decimal(digits: &[u8]) -> usize {

@@ -8,9 +8,7 @@ use libc::STDOUT_FILENO;
 pub fn show(line: &[u8], got: &[u8]) {
     name(line);
     hex(got);
-    put(b' ');
-    io::write_all(STDOUT_FILENO, expected(line));
-    put(b'\n');
+    end(expected(line));
 }
 
 // What came out, as a number with as many digits as what was expected has.
@@ -18,9 +16,7 @@ pub fn show_number(line: &[u8], got: u64) {
     name(line);
     let wanted = expected(line);
     io::print_hex(STDOUT_FILENO, got, wanted.len());
-    put(b' ');
-    io::write_all(STDOUT_FILENO, wanted);
-    put(b'\n');
+    end(wanted);
 }
 
 // The line is no call that the program knows.
@@ -31,7 +27,7 @@ pub fn not_understood(line: &[u8]) {
 
 fn name(line: &[u8]) {
     io::write_all(STDOUT_FILENO, part(line, 0, name_end(line)));
-    put(b' ');
+    io::write_all(STDOUT_FILENO, b" ");
 }
 
 fn expected(line: &[u8]) -> &[u8] {
@@ -39,13 +35,14 @@ fn expected(line: &[u8]) -> &[u8] {
     part(line, equals + 2, line.len())
 }
 
+fn end(expected: &[u8]) {
+    io::write_all(STDOUT_FILENO, b" ");
+    io::write_all(STDOUT_FILENO, expected);
+    io::write_all(STDOUT_FILENO, b"\n");
+}
+
 fn hex(bytes: &[u8]) {
     for i in 0..bytes.len() {
         io::print_hex(STDOUT_FILENO, octets::wide(bytes[i]), 2);
     }
-}
-
-fn put(byte: u8) {
-    let one = [byte];
-    io::write_all(STDOUT_FILENO, &one);
 }

@@ -2,13 +2,6 @@
 ghost use Prim.Native.Nat.{_-_, _≤_, max};
 ghost use lib.ListN.{length};
 
-// Where the line that starts at a place ends.
-pub fn line_end(text: &[u8], from: usize) -> usize
-    ensures { λ r. ⌜ (from ≤ r) × (r ≤ max from (length (now (text .entry)))) ⌝ }
-{
-    until(text, from, b'\n')
-}
-
 // The bytes from a place to another, or none where there are no such places.
 pub fn part(text: &[u8], from: usize, end: usize) -> &[u8]
     ensures { λ r. ⌜ length (now r) ≤ end - from ⌝ }

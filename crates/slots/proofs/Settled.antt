@@ -3,7 +3,7 @@
 use mathlib.Core.Path.{_≡_, sym, ap, _∙_}
 use mathlib.Core.List.{List, [], _∷_, _++_, map, append-assoc, append-nil}
 use mathlib.Core.Logic.{inl}
-use Prim.Native.Nat.{ℕ, _+_, _*_, _≤_, _<_}
+use Prim.Native.Nat.{ℕ, _+_, _-_, _*_, _≤_, _<_}
 use native.Mathlib.Omega.{arith}
 use lib.Dec.{lit≤}
 use lib.ListN.{length, getD, take, drop, length-append, length-drop}
@@ -16,7 +16,7 @@ use Rattle.window.specs.Window.{Frame}
 use Rattle.window.specs.Entry.{Entry}
 use Rattle.window.proofs.Entries.{UndamagedEntry, totals-small}
 use Rattle.window.proofs.Undamaged.{undamaged-facts, marks-small}
-use Rattle.slots.specs.Table.{slotOf, flagOf, csOf, keyIdLengthOf, keyIdOf, sourceLengthOf, sourceOf, keyOf, windowOf, entryOf, historyBytes, settled, replaced, slotLength, slotCount, tableLength, occupiedAt, flagAt, suiteAt, keyIdLengthAt, keyIdAt, sourceLengthAt, sourceAt, keyAt, sizeAt, highestAt, replaysAt}
+use Rattle.slots.specs.Table.{slotOf, flagOf, csOf, keyIdLengthOf, keyIdOf, sourceLengthOf, sourceOf, keyOf, windowOf, entryOf, historyBytes, settled, replaced, slotLength, slotCount, tableLength, occupiedAt, flagAt, suiteAt, keyIdLengthAt, keyIdAt, keyIdRoom, sourceLengthAt, sourceAt, sourceRoom, keyAt, sizeAt, highestAt, replaysAt}
 use Rattle.slots.proofs.Slots.{slot-length}
 use Rattle.slots.proofs.Standing.{Lies, joined, ahead, lies, number}
 
@@ -42,7 +42,7 @@ module _ (s : List ℕ) (e : Entry) (long : length s ≡ slotLength) where
   abbrev now : List ℕ
   now = put s highestAt (historyBytes e)
 
-  length-history : length (historyBytes e) ≡ 56
+  length-history : length (historyBytes e) ≡ replaysAt - highestAt
   length-history = simp (length-append, length-bytes)
 
   room : highestAt + length (historyBytes e) ≤ length s
@@ -57,7 +57,7 @@ module _ (s : List ℕ) (e : Entry) (long : length s ≡ slotLength) where
   piece : (at n : ℕ) → at + n ≤ highestAt → part at n now ≡ part at n s
   piece at n h = part-other s highestAt (historyBytes e) room at n (omega arith) (inl h)
 
-  pub settled-keys : keyIdLengthOf s ≤ 128 → sourceLengthOf s ≤ 32 → SameKeys s now
+  pub settled-keys : keyIdLengthOf s ≤ keyIdRoom → sourceLengthOf s ≤ sourceRoom → SameKeys s now
   settled-keys k n =
       let keyid : keyIdLengthOf now ≡ keyIdLengthOf s = byte keyIdLengthAt (lit≤ tt) in
       let source : sourceLengthOf now ≡ sourceLengthOf s = byte sourceLengthAt (lit≤ tt) in record {
@@ -83,11 +83,11 @@ module _ (s : List ℕ) (e : Entry) (long : length s ≡ slotLength) where
       ∷ drop replaysAt s ∷ []
 
   abbrev lengths : List ℕ
-  lengths = highestAt ∷ 8 ∷ 32 ∷ 8 ∷ 8 ∷ 18 ∷ []
+  lengths = highestAt ∷ 8 ∷ 32 ∷ 8 ∷ 8 ∷ (slotLength - replaysAt) ∷ []
 
   in-stretches : now ≡ joined stretches
   in-stretches =
-      row-of-four s (bytesOf 8 (e .window .highest)) (bytesOf 32 (e .window .marks)) (bytesOf 8 (e .accepted)) (bytesOf 8 (e .bytes)) highestAt 56 length-history
+      row-of-four s (bytesOf 8 (e .window .highest)) (bytesOf 32 (e .window .marks)) (bytesOf 8 (e .accepted)) (bytesOf 8 (e .bytes)) highestAt (replaysAt - highestAt) length-history
 
   of-lengths : map length stretches ≡ lengths
   of-lengths = simp (length-bytes, length-take-le highestAt s (rw long (lit≤ tt)), length-drop, long)

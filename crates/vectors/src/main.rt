@@ -20,7 +20,7 @@ fn run(list: &[u8], text: &[u8]) {
     let mut opened: u64 = 0;
     let mut at: usize = 0;
     while at < text.len() {
-        let end = script::line_end(text, at);
+        let end = script::until(text, at, b'\n');
         let line = script::part(text, at, end);
         let command = script::command(list, line, &mut memory);
         opened = call(command, line, &memory, opened);
