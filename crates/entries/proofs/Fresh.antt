@@ -7,7 +7,7 @@ use Prim.Native.Nat.{ℕ, _-_, _^_, _≤_, _<_}
 use native.Mathlib.Omega.{arith}
 use lib.Dec.{lit<, lit≤}
 use lib.ListN.{length, getD, replicate, length-append, length-replicate}
-use Rattle.window.specs.Window.{Frame}
+use Rattle.window.specs.declared.Frame.{Frame}
 use Rattle.format.specs.KeyData.{KeyData, soundOf}
 use Rattle.octets.specs.Octets.{bytesOf}
 use Rattle.octets.proofs.BigEndian.{length-bytes}

@@ -4,7 +4,8 @@ use mathlib.Core.Path.{_≡_, ap, _∙_}
 use mathlib.Core.Bool.{true, false, _&&_, not-eq-not}
 use mathlib.Core.List.{List}
 use Prim.Native.Nat.{ℕ}
-use Rattle.window.specs.Window.{Frame, soundFrame}
+use Rattle.window.specs.Window.{soundFrame}
+use Rattle.window.specs.declared.Frame.{Frame}
 use Rattle.numbers.proofs.Tests.{and-left, and-right, and-both}
 use Rattle.answers.specs.Answers.{refused, unsound}
 use Rattle.format.specs.KeyData.{soundOf, KeyData}

@@ -8,7 +8,8 @@ use Prim.Native.Nat.{ℕ, _≤_, _<_}
 use native.Mathlib.Decide.{decLt}
 use native.Mathlib.Omega.{arith}
 use lib.Dec.{lit≤}
-use Rattle.window.specs.Window.{Frame, soundFrame}
+use Rattle.window.specs.Window.{soundFrame}
+use Rattle.window.specs.declared.Frame.{Frame}
 use Rattle.answers.specs.Answers.{refused, unsound, twin, full, noSlot}
 use Rattle.format.specs.KeyData.{soundOf, KeyData}
 use Rattle.slots.specs.Table.{slotOf, occupied, replaced, emptySlot, slotCount, slotLength, tableLength}

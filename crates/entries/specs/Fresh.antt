@@ -4,7 +4,7 @@ use Prim.Native.Nat.{ℕ, _-_}
 use lib.ListN.{length, replicate}
 use Rattle.octets.specs.Octets.{bytesOf}
 use Rattle.format.specs.KeyData.{KeyData}
-use Rattle.window.specs.Window.{Frame}
+use Rattle.window.specs.declared.Frame.{Frame}
 use Rattle.slots.specs.Table.{slotLength, keyIdRoom, sourceRoom}
 
 -- bytes with zeros behind them, n in all

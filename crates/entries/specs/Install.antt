@@ -6,7 +6,8 @@ use lib.Dec.{ltb}
 use Rattle.answers.specs.Answers.{refused, unsound, twin, full, noSlot}
 use Rattle.answers.specs.declared.Answer.{Answer}
 use Rattle.format.specs.KeyData.{KeyData, soundOf}
-use Rattle.window.specs.Window.{Frame, soundFrame}
+use Rattle.window.specs.Window.{soundFrame}
+use Rattle.window.specs.declared.Frame.{Frame}
 use Rattle.slots.specs.Table.{slotCount, slotOf, occupied, replaced, emptySlot}
 use Rattle.lookup.specs.Lookup.{leadsTo, firstFree}
 use Rattle.entries.specs.Fresh.{freshSlot}

@@ -9,6 +9,7 @@ ghost use Rattle.entries.specs.Fresh.{prefixed, headOf, freshSlot};
 use format::key_data;
 use format::key_data::Terms;
 use slots::layout;
+use window::Frame;
 
 // A fresh entry fills its slot.
 pub(crate) fn write_entry(
@@ -18,10 +19,10 @@ pub(crate) fn write_entry(
     keyid: &[u8],
     source: &[u8],
     key: &[u8],
-    size: u64,
+    frame: Frame,
 )
     requires { ⌜ (length (now table) ≡ tableLength) × (slot < slotCount) × (length (now keyid) ≤ keyIdRoom) × (length (now source) ≤ sourceRoom) × (length (now key) ≡ 32) ⌝ }
-    ensures { λ _. ⌜ now (table .exit) ≡ replaced (now (table .entry)) slot (freshSlot (keyed terms (now (keyid .entry)) (now (source .entry)) (now (key .entry))) (record { size = size })) ⌝ }
+    ensures { λ _. ⌜ now (table .exit) ≡ replaced (now (table .entry)) slot (freshSlot (keyed terms (now (keyid .entry)) (now (source .entry)) (now (key .entry))) frame) ⌝ }
 {
     let at = layout::SLOT * slot;
     write_head(table, at, terms);
@@ -38,7 +39,7 @@ pub(crate) fn write_entry(
         key_data::GREATEST_SOURCE,
     );
     octets::copy(key, table, at + layout::KEY);
-    octets::write(table, at + layout::SIZE, 8, size);
+    octets::write(table, at + layout::SIZE, 8, frame.size);
     octets::clear(table, at + layout::START, layout::SLOT - layout::START);
 }
 

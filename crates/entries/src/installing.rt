@@ -10,6 +10,7 @@ use format::key_data;
 use format::key_data::Terms;
 use lookup::Found;
 use slots::layout;
+use window::Frame;
 
 // Replies 13, 14 and 15 in that order; else a fresh entry in the lowest free slot.
 pub(crate) fn install_in(
@@ -18,16 +19,16 @@ pub(crate) fn install_in(
     keyid: &[u8],
     source: &[u8],
     key: &[u8],
-    size: u64,
+    frame: Frame,
 ) -> Answer
     requires { ⌜ length (now table) ≡ tableLength ⌝ }
-    ensures { λ r. ⌜ r ≡ installed (now (table .entry)) (keyed terms (now (keyid .entry)) (now (source .entry)) (now (key .entry))) (record { size = size }) .answer ⌝ }
-    ensures { λ r. ⌜ now (table .exit) ≡ installed (now (table .entry)) (keyed terms (now (keyid .entry)) (now (source .entry)) (now (key .entry))) (record { size = size }) .table ⌝ }
+    ensures { λ r. ⌜ r ≡ installed (now (table .entry)) (keyed terms (now (keyid .entry)) (now (source .entry)) (now (key .entry))) frame .answer ⌝ }
+    ensures { λ r. ⌜ now (table .exit) ≡ installed (now (table .entry)) (keyed terms (now (keyid .entry)) (now (source .entry)) (now (key .entry))) frame .table ⌝ }
 {
     if !key_data::sound(terms, keyid, source, key) {
         return answers::refuse(answers::UNSOUND);
     }
-    if !window::sound_frame(size) {
+    if !window::sound_frame(frame) {
         return answers::refuse(answers::UNSOUND);
     }
     let twin = lookup::leads_to(table, terms.flag, keyid, source);
@@ -38,7 +39,7 @@ pub(crate) fn install_in(
     let Found::At(slot) = free else {
         return answers::refuse(answers::FULL);
     };
-    filling::write_entry(table, slot, terms, keyid, source, key, size);
+    filling::write_entry(table, slot, terms, keyid, source, key, frame);
     done_at(slot)
 }
 

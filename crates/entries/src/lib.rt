@@ -5,6 +5,7 @@ ghost use Rattle.entries.specs.Install.{installed, removed};
 use answers::Answer;
 use format::key_data::Terms;
 use slots::layout::TABLE;
+use window::Frame;
 
 mod filling; // filling.rt: a fresh entry's slot, written
 mod installing; // installing.rt: entries put into the table and taken out
@@ -24,7 +25,8 @@ pub fn install(
     ensures { λ r. ⌜ now (table .exit) ≡ installed (now (table .entry)) (handedIn flag (now (keyid .entry)) (now (source .entry)) suite (now (key .entry))) (record { size = size }) .table ⌝ }
 {
     let terms = Terms { flag, suite };
-    installing::install_in(table, terms, keyid, source, key, size)
+    let frame = Frame { size };
+    installing::install_in(table, terms, keyid, source, key, frame)
 }
 
 // The slot is freed and holds zeros only. Refuses with 16 (slot over 15, or free).

@@ -8,7 +8,8 @@ use native.Mathlib.Omega.{arith}
 use borrow.Author.Tests.{ltb-false}
 use lib.Dec.{eqb, ltb}
 use lib.ListN.{length}
-use Rattle.window.specs.Window.{floorAt, floorOf, marked, judge, verdictOf, Frame, soundFrame}
+use Rattle.window.specs.Window.{floorAt, floorOf, marked, judge, verdictOf, soundFrame}
+use Rattle.window.specs.declared.Frame.{Frame}
 use Rattle.window.specs.Entry.{Entry, freshEntry, taken, longestPayload}
 use Rattle.window.specs.declared.Verdict.the-variants.{Admissible}
 use Rattle.window.proofs.Accept.{Takes, accept-marked, accept-rises}

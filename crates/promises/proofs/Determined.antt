@@ -3,7 +3,7 @@
 use mathlib.Core.Path.{_≡_, sym, ap, _∙_}
 use mathlib.Core.List.{List}
 use Prim.Native.Nat.{ℕ}
-use Rattle.window.specs.Window.{Frame}
+use Rattle.window.specs.declared.Frame.{Frame}
 use Rattle.format.specs.KeyData.{KeyData}
 use Rattle.answers.specs.declared.Answer.{Answer}
 use Rattle.entries.specs.Install.{Left, installed, removed}

@@ -6,7 +6,8 @@ use mathlib.Core.List.{List}
 use Prim.Native.Nat.{ℕ, _+_, _-_, _^_}
 use lib.Dec.{eqb, ltb}
 use lib.ListN.{length}
-use Rattle.window.specs.Window.{floorOf, marked, judge, Frame, soundFrame}
+use Rattle.window.specs.Window.{floorOf, marked, judge, soundFrame}
+use Rattle.window.specs.declared.Frame.{Frame}
 use Rattle.octets.specs.Octets.{put}
 use Rattle.answers.specs.Answers.{refused, outputRoom}
 use Rattle.format.specs.KeyId.{lengthOf}

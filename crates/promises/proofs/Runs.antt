@@ -9,7 +9,8 @@ use native.Mathlib.Omega.{arith}
 use lib.Dec.{eqb, ltb}
 use lib.ListN.{length, length-map}
 use Rattle.octets.specs.Octets.{Bytes}
-use Rattle.window.specs.Window.{floorAt, Frame}
+use Rattle.window.specs.Window.{floorAt}
+use Rattle.window.specs.declared.Frame.{Frame}
 use Rattle.window.proofs.Undamaged.{frame-most}
 use Rattle.window.specs.Entry.{Entry}
 use Rattle.answers.specs.declared.Answer.{Answer}

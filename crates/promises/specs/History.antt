@@ -7,7 +7,8 @@ use lib.Dec.{eqb, ltb}
 use lib.ListN.{length}
 use Rattle.answers.specs.Answers.{outputRoom}
 use Rattle.octets.specs.Octets.{Bytes, same}
-use Rattle.window.specs.Window.{Frame, floorAt}
+use Rattle.window.specs.Window.{floorAt}
+use Rattle.window.specs.declared.Frame.{Frame}
 use Rattle.format.specs.KeyData.{KeyData}
 use Rattle.format.specs.Suite.{numberOf}
 use Rattle.format.specs.Header.{readOf, payloadLength, keyIdBytes}

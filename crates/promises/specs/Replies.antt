@@ -6,7 +6,8 @@ use lib.Dec.{eqb, ltb}
 use lib.ListN.{length}
 use Rattle.answers.specs.Answers.{outputRoom}
 use Rattle.octets.specs.Octets.{part}
-use Rattle.window.specs.Window.{floorOf, marked, Frame, soundFrame}
+use Rattle.window.specs.Window.{floorOf, marked, soundFrame}
+use Rattle.window.specs.declared.Frame.{Frame}
 use Rattle.format.specs.KeyId.{lengthOf}
 use Rattle.format.specs.KeyData.{known, soundOf, KeyData}
 use Rattle.format.specs.Suite.{suiteOf, icvLengthOf}

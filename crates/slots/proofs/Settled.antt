@@ -12,7 +12,7 @@ use Rattle.octets.specs.Octets.{bigEndian, bytesOf, part, put}
 use Rattle.octets.proofs.BigEndian.{length-bytes}
 use Rattle.octets.proofs.Parts.{number-same, put-below, part-other, put-within}
 use Rattle.octets.proofs.Places.{length-put}
-use Rattle.window.specs.Window.{Frame}
+use Rattle.window.specs.declared.Frame.{Frame}
 use Rattle.window.specs.Entry.{Entry}
 use Rattle.window.proofs.Entries.{UndamagedEntry, totals-small}
 use Rattle.window.proofs.Undamaged.{undamaged-facts, marks-small}

@@ -41,7 +41,7 @@ marks-bytes a b c d p q r =
 -- the window of the numbers that were read in a slot
 pub window-is : (s : List ℕ) {size highest a b c d : ℕ} → size ≡ bigEndian 8 (drop sizeAt s) → highest ≡ bigEndian 8 (drop highestAt s)
     → a ≡ bigEndian 8 (drop (marksAt + 24) s) → b ≡ bigEndian 8 (drop (marksAt + 16) s) → c ≡ bigEndian 8 (drop (marksAt + 8) s) → d ≡ bigEndian 8 (drop marksAt s)
-    → viewOf (record { size = size; highest = highest; marks = a ∷ b ∷ c ∷ d ∷ [] }) ≡ windowOf s
+    → viewOf (record { frame = record { size = size }; highest = highest; marks = a ∷ b ∷ c ∷ d ∷ [] }) ≡ windowOf s
 window-is s e f p q r t =
     rw (e, f, p, q, r, t)
     (ap (λ (m : ℕ). record { frame = record { size = bigEndian 8 (drop sizeAt s) }; highest = bigEndian 8 (drop highestAt s); marks = m }) (marks-read marksAt s))

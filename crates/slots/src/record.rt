@@ -15,6 +15,7 @@ ghost use Rattle.slots.specs.Record.{undamaged};
 use crate::layout;
 use format::key_data;
 use format::key_data::Terms;
+use window::Frame;
 use window::Window;
 
 // The window that a slot holds.
@@ -23,7 +24,9 @@ pub fn window_in(slot: &[u8]) -> Window
     ensures { λ r. ⌜ viewOf r ≡ windowOf (now (slot .entry)) ⌝ }
 {
     Window {
-        size: octets::read(slot, layout::SIZE, 8),
+        frame: Frame {
+            size: octets::read(slot, layout::SIZE, 8),
+        },
         highest: octets::read(slot, layout::HIGHEST, 8),
         marks: [
             octets::read(slot, layout::MARKS + 24, 8),

@@ -18,5 +18,5 @@ window-determined {v} {w} p q e =
     let marks : v .marks ≡ w .marks =
     ext-getD 0 (v .marks) (w .marks) (p .four ∙ sym (q .four))
     (λ j h. sym (digit-at 64 (v .marks) (p .words) j) ∙ ap (λ (x : View). x .marks / 2 ^ (64 * j) % 2 ^ 64) e ∙ digit-at 64 (w .marks) (q .words) j) in
-    ap (λ (m : List ℕ). record { size = v .size; highest = v .highest; marks = m }) marks
-    ∙ ap (λ (x : View). record { size = x .frame .size; highest = x .highest; marks = w .marks }) e
+    ap (λ (m : List ℕ). record { frame = v .frame; highest = v .highest; marks = m }) marks
+    ∙ ap (λ (x : View). record { frame = x .frame; highest = x .highest; marks = w .marks }) e

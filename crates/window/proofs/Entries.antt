@@ -10,7 +10,8 @@ use Rattle.numbers.proofs.Bits.{ones-in}
 use Rattle.window.proofs.Floor.{floor-le}
 use Rattle.numbers.proofs.Tests.{and-left, and-right, and-both, refuted}
 use Rattle.window.specs.declared.Verdict.the-variants.{Admissible}
-use Rattle.window.specs.Window.{View, soundFrame, Frame, floorOf, verdictOf, countOf, undamagedWindow}
+use Rattle.window.specs.Window.{View, soundFrame, floorOf, verdictOf, countOf, undamagedWindow}
+use Rattle.window.specs.declared.Frame.{Frame}
 use Rattle.window.specs.Entry.{Entry, freshEntry, taken, undamagedEntry, longestPayload}
 use Rattle.window.proofs.Undamaged.{marks-small, undamaged-facts, undamaged-test, takes, accept-undamaged, accept-count, fresh-undamaged}
 

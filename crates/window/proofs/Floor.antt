@@ -2,7 +2,8 @@
 -- Assumes nothing.
 use Prim.Native.Nat.{ℕ, _+_, _≤_}
 use native.Mathlib.Omega.{arith}
-use Rattle.window.specs.Window.{Frame, floorAt}
+use Rattle.window.specs.Window.{floorAt}
+use Rattle.window.specs.declared.Frame.{Frame}
 
 pub floor-law : (f : Frame) (h : ℕ) → 1 ≤ f .size → h + 1 ≤ floorAt f h + f .size
 unfolding floorAt

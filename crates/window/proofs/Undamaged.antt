@@ -13,7 +13,8 @@ use Rattle.numbers.specs.Digits.{bit}
 use Rattle.numbers.proofs.Bits.{bit-none, ones-in}
 use Rattle.numbers.proofs.Tests.{and-left, and-right, and-both, refuted}
 use Rattle.window.specs.declared.Verdict.the-variants.{Admissible}
-use Rattle.window.specs.Window.{Frame, soundFrame, View, floorOf, marked, verdictOf, acceptOf, countOf, undamagedWindow, freshOf}
+use Rattle.window.specs.Window.{soundFrame, View, floorOf, marked, verdictOf, acceptOf, countOf, undamagedWindow, freshOf}
+use Rattle.window.specs.declared.Frame.{Frame}
 use Rattle.window.proofs.Floor.{floor-law}
 use Rattle.window.proofs.Marks.{judged, marked-within}
 use Rattle.window.proofs.Accept.{Takes, accept-reaches, accept-marked, accept-inside, accept-ones}

@@ -2,7 +2,8 @@
 use mathlib.Core.Bool.{Bool, _&&_}
 use Prim.Native.Nat.{ℕ, _+_, _*_}
 use lib.Dec.{leb}
-use Rattle.window.specs.Window.{Frame, View, floorOf, acceptOf, countOf, undamagedWindow, freshOf}
+use Rattle.window.specs.Window.{View, floorOf, acceptOf, countOf, undamagedWindow, freshOf}
+use Rattle.window.specs.declared.Frame.{Frame}
 
 pub record Entry : Type 0 where
   pub window : View

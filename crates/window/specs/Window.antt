@@ -4,15 +4,12 @@ use Prim.Native.Nat.{ℕ, _+_, _-_, _*_, _%_, _^_, min, max}
 use lib.Count.{onesIn}
 use lib.Dec.{eqb, leb, ltb}
 use Rattle.numbers.specs.Digits.{bit, fromDigits}
+use Rattle.window.specs.declared.Frame.{Frame}
 use Rattle.window.specs.declared.Window.{Window}
 use Rattle.window.specs.declared.Verdict.{Verdict}
 use Rattle.window.specs.declared.Verdict.the-variants.{Below, Marked, Admissible}
 
--- What an install settles of a window: its Size.
-pub record Frame : Type 0 where
-  pub size : ℕ
-
--- "for an entry, Size is 1 to 256"
+-- A frame is what an install settles of a window. "for an entry, Size is 1 to 256"
 abbrev pub soundFrame : Frame → Bool
 soundFrame f = leb 1 (f .size) && leb (f .size) 256
 
@@ -24,7 +21,7 @@ pub record View : Type 0 where
 
 -- What a window of the code stands for: its four words, the lowest first, are the marks.
 abbrev pub viewOf : Window → View
-viewOf w = record { frame = record { size = w .size }; highest = w .highest; marks = fromDigits 64 (w .marks) }
+viewOf w = record { frame = w .frame; highest = w .highest; marks = fromDigits 64 (w .marks) }
 
 -- "Floor = highest − Size + 1, or 0 where that is negative." Size is at least 1.
 unfoldable pub floorAt : Frame → ℕ → ℕ

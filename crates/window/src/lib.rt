@@ -15,9 +15,14 @@ const LARGEST_SIZE: u64 = 256;
 // The most bytes that a payload can have.
 const LONGEST_PAYLOAD: u64 = 2034;
 
-// Size, the highest number, and the marks: four words, the lowest first. The bit of value 2^i of the whole stands for highest - i.
-pub struct Window {
+// What an install settles of a window: its Size.
+pub struct Frame {
     pub size: u64,
+}
+
+// The frame, the highest number, and the marks: four words, the lowest first. The bit of value 2^i of the whole stands for highest - i.
+pub struct Window {
+    pub frame: Frame,
     pub highest: u64,
     pub marks: [u64; 4],
 }
@@ -34,7 +39,7 @@ impl Window {
     pub fn floor(self) -> u64
         ensures { λ r. ⌜ r ≡ floorOf (viewOf self) ⌝ }
     {
-        let size = self.size;
+        let size = self.frame.size;
         let highest = self.highest;
         if size == 0 {
             return highest;
@@ -67,19 +72,19 @@ impl Window {
         requires { ⌜ (undamagedWindow (viewOf self) ≡ true) × (verdictOf (viewOf self) n ≡ Admissible) ⌝ }
         ensures { λ r. ⌜ viewOf r ≡ acceptOf (viewOf self) n ⌝ }
     {
-        let size = self.size;
+        let frame = self.frame;
         let marks = self.marks;
         let top = larger(self.highest, n);
-        let rise = smaller(top - self.highest, size);
+        let rise = smaller(top - self.highest, frame.size);
         let raised = Window {
-            size,
+            frame,
             highest: top,
             marks,
         };
         let moved = words::cut(words::shifted(marks, rise), raised.reach());
         let marked = words::with_bit(moved, top - n);
         Window {
-            size,
+            frame,
             highest: top,
             marks: marked,
         }
@@ -90,7 +95,7 @@ impl Window {
         ensures { λ r. ⌜ r ≡ undamagedWindow (viewOf self) ⌝ }
     {
         let marks = self.marks;
-        if !sound_frame(self.size) {
+        if !sound_frame(self.frame) {
             return false;
         }
         if LAST < self.highest {
@@ -122,13 +127,13 @@ impl Window {
 }
 
 // Whether a window may have that Size.
-pub fn sound_frame(size: u64) -> bool
-    ensures { λ r. ⌜ r ≡ soundFrame (record { size = size }) ⌝ }
+pub fn sound_frame(frame: Frame) -> bool
+    ensures { λ r. ⌜ r ≡ soundFrame frame ⌝ }
 {
-    if size == 0 {
+    if frame.size == 0 {
         return false;
     }
-    if LARGEST_SIZE < size {
+    if LARGEST_SIZE < frame.size {
         return false;
     }
     true

@@ -8,6 +8,6 @@ pub sound-frame-spec : {M : Type 1} → statement M
 sound-frame-spec =
     tie.close
     (tie.spec
-    (λ c. frame-unsound (record { size = c .before .args .size }) (λ l h. omega arith))
-    (λ c. frame-unsound (record { size = c .before .before .args .size }) (λ l h. omega arith))
-    (λ c. frame-sound (record { size = c .before .before .args .size }) (omega arith) (omega arith)))
+    (λ c. frame-unsound (c .before .before .args .frame) (λ l h. omega arith))
+    (λ c. frame-unsound (c .before .before .before .before .args .frame) (λ l h. omega arith))
+    (λ c. frame-sound (c .before .before .before .before .args .frame) (omega arith) (omega arith)))

@@ -35,7 +35,7 @@ returns c =
     let source = and-then keyid room (prefixed sourceRoom (a .source .now)) (at + keyAt)
     (rw (length-prefixed sourceRoom (a .source .now) (p .3)) (add-assoc at sourceLengthAt (1 + sourceRoom))) (after-source .write-prefixed2 .ensures) in
     let key = and-then source room (a .key .now) (at + sizeAt) (rw (p .4) (add-assoc at keyAt 32)) (after-key .copy .ensures) in
-    let size = and-then key room (bytesOf 8 (a .size)) (at + startAt) (rw length-bytes (add-assoc at sizeAt 8)) (after-size .write .ensures) in
+    let size = and-then key room (bytesOf 8 (a .frame .size)) (at + startAt) (rw length-bytes (add-assoc at sizeAt 8)) (after-size .write .ensures) in
     and-zeros startAt size room slotLength (after-zeros .clear .ensures)
 
 pub write-entry-spec : {M : Type 1} → statement M

@@ -8,7 +8,7 @@ use borrow.Author.Tests.{not-true, not-false}
 use Rattle.answers.specs.Answers.{refused, unsound}
 use Rattle.format.specs.KeyData.{KeyData, keyed}
 use Rattle.format.proofs.Soundness.{sound-facts}
-use Rattle.window.specs.Window.{Frame}
+use Rattle.window.specs.declared.Frame.{Frame}
 use Rattle.entries.specs.Fresh.{freshSlot}
 use Rattle.entries.specs.Install.{Left, placed, unlessTwin, installed}
 use Rattle.entries.proofs.Bounds.{keyid-most}
@@ -24,7 +24,7 @@ abbrev keys : tie.Start → KeyData
 keys s = let a = s .args in keyed (a .terms) (a .keyid .now) (a .source .now) (a .key .now)
 
 abbrev frame : tie.Start → Frame
-frame s = record { size = s .args .size }
+frame s = s .args .frame
 
 abbrev fresh : tie.Start → List ℕ
 fresh s = freshSlot (keys s) (frame s)

@@ -9,9 +9,9 @@ use Rattle.window.proofs.Undamaged.{undamaged-facts}
 use Rattle.window.proofs.Window.accept.Statement.{statement}
 use Rattle.window.proofs.Window.accept.Tie as tie
 
-accepting : (l : tie.After-larger) → let s = l .before .before in Accepting (viewOf (s .args .self)) (s .args .n) (l .larger .result)
+accepting : (l : tie.After-larger) → let s = l .before .before .before in Accepting (viewOf (s .args .self)) (s .args .n) (l .larger .result)
 accepting l =
-    let s = l .before .before in
+    let s = l .before .before .before in
     record { undamaged = undamaged-facts _ (s .pre .0); admitted = s .pre .1; larger = l .larger .ensures }
 
 shifted-requires : tie.Need-shifted-requires
@@ -19,7 +19,7 @@ shifted-requires c κs = omega (arith, accepting (c .before .before) .undamaged 
 
 moving : (c : tie.After-cut)
     → let l = c .before .before .before .before .before in
-    fromDigits 64 (c .cut .result) ≡ moved (viewOf (l .before .before .args .self)) (l .larger .result)
+    fromDigits 64 (c .cut .result) ≡ moved (viewOf (l .before .before .before .args .self)) (l .larger .result)
 moving c =
     let m = c .before .before .before in
     moves (accepting (m .before .before)) (m .smaller .ensures) (c .before .before .shifted .ensures) (c .before .reach .ensures) (c .cut .ensures)
