@@ -9,7 +9,7 @@ use Rattle.window.specs.declared.Window.{Window}
 use Rattle.window.specs.declared.Verdict.{Verdict}
 use Rattle.window.specs.declared.Verdict.the-variants.{Below, Marked, Admissible}
 
--- A frame is what an install settles of a window. "for an entry, Size is 1 to 256"
+-- A frame, of the code, holds what an install settles of a window: its Size. "for an entry, Size is 1 to 256"
 abbrev pub soundFrame : Frame → Bool
 soundFrame f = leb 1 (f .size) && leb (f .size) 256
 
