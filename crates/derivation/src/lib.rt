@@ -14,6 +14,7 @@ use modes::Subkeys;
 pub const CHECK: u8 = 1;
 
 pub const CIPHER: u8 = 5;
+
 // A block's data with the longest source.
 const LONGEST: usize = 50;
 

@@ -12,14 +12,17 @@ use crate::suite::Suite;
 pub const LEAST: usize = 14;
 
 pub const GREATEST: usize = 2048;
+
 // Where the suite's number and the KeyId stand, and how many bytes SeqNum has.
 const SUITE_AT: usize = 2;
 
 pub const KEYID_AT: usize = 3;
 
 const SEQNUM: usize = 6;
+
 // The bytes before the payload, but for the KeyId.
 pub const FIXED: usize = 9;
+
 // The value of ExternalKeyIdFlag's bit, above the 15 bits of Version.
 const FLAG: u64 = 32768;
 

@@ -13,6 +13,7 @@ pub const LEAST_SOURCE: usize = 4;
 pub const GREATEST_SOURCE: usize = 32;
 
 pub const KEY: usize = 32;
+
 // The KeyId that says that there is none.
 const ABSENT: u8 = 128;
 

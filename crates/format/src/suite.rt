@@ -18,8 +18,10 @@ impl Suite {
     pub const MAGMA_CTR: u8 = 1;
 
     pub const MAGMA_NULL: u8 = 2;
+
     // Bytes of an ICV.
     pub const ICV: usize = 4;
+
     // Bits of a block of derivation.
     pub const BLOCK_BITS: u64 = 64;
 

@@ -6,12 +6,14 @@ pub const SLOT: usize = 288;
 
 // Bytes of a table. One of zeros is empty.
 pub const TABLE: usize = 4608;
+
 // 0 in a free slot.
 pub const OCCUPIED: usize = 0;
 
 pub const FLAG: usize = 1;
 
 pub const SUITE: usize = 2;
+
 // Kept for an edition: zero in a fresh entry, and not read.
 pub const EDITION: usize = 3;
 
@@ -26,6 +28,7 @@ pub const SOURCE: usize = 134;
 pub const KEY: usize = 166;
 
 pub const SIZE: usize = 198;
+
 // Kept for a start number: zero in a fresh entry, and not read.
 pub const START: usize = 206;
 
@@ -36,6 +39,7 @@ pub const MARKS: usize = 222;
 pub const ACCEPTED: usize = 254;
 
 pub const BYTES: usize = 262;
+
 // Kept for two counters: zero in a fresh entry, and not read. Two bytes of a slot are left behind them.
 pub const REPLAYS: usize = 270;
 

@@ -1,6 +1,7 @@
 -- `listing::write_named` meets its contract: its four lines stand behind one another, and KeyId and source are short. Assumes nothing.
 use mathlib.Core.Path.{_≡_}
-use Prim.Native.Nat.{_≤_}
+use mathlib.Core.List.{List}
+use Prim.Native.Nat.{ℕ, _≤_}
 use native.Mathlib.Nat.{zero-add}
 use native.Mathlib.Omega.{arith}
 use borrow.Author.Needs.{needs}
@@ -16,17 +17,18 @@ use Rattle.listing.proofs.write_named.Tie as tie
 abbrev start : tie.After-slice-known → tie.Start
 start c = c .before .before
 
+abbrev slot : tie.After-slice-known → List ℕ
+slot c = start c .args .slot .now
+
 -- what is known of the slot and of the output
-known : (c : tie.After-slice-known) → let a = start c .args in
-    (length (a .slot .now) ≡ slotLength)
-    × (keyIdLengthOf (a .slot .now) ≤ keyIdRoom)
-    × (sourceLengthOf (a .slot .now) ≤ sourceRoom)
-    × (outputRoom ≤ length (a .out .now))
+known : (c : tie.After-slice-known) → (length (slot c) ≡ slotLength)
+    × (keyIdLengthOf (slot c) ≤ keyIdRoom)
+    × (sourceLengthOf (slot c) ≤ sourceRoom)
+    × (outputRoom ≤ length (start c .args .out .now))
 known c =
-    let s = start c .args .slot .now in
     let p = start c .pre in
-    let b : Bytes s = λ i. c .before .shared-slice-known .given i .fits in
-    (p .0, keyid-short s (p .0) b (p .1), source-short s (p .1) (p .0), p .2)
+    let b : Bytes (slot c) = λ i. c .before .shared-slice-known .given i .fits in
+    (p .0, keyid-short (slot c) (p .0) b (p .1), source-short (slot c) (p .1) (p .0), p .2)
 
 -- the places before the KeyId's line and before the source's, as the slot was found
 abbrev before-keyid : tie.After-write-hex-line-arg → tie.After-slice-known
@@ -34,20 +36,6 @@ before-keyid c = c .before .before .before .before .before .before .before .befo
 
 abbrev before-source : tie.After-write-hex-line-arg4 → tie.After-slice-known
 before-source c = before-keyid (c .before .before .before .before .before .before)
-
-write-hex-line-requires : tie.Need-write-hex-line-requires
-write-hex-line-requires c κs =
-    let here = before-keyid (c .before .before) in
-    let k = known here in
-    let s = start here .args .slot .now in
-    (search needs, omega (arith, part-most keyIdAt (keyIdLengthOf s) s), search needs)
-
-write-hex-line-requires-2 : tie.Need-write-hex-line-requires-2
-write-hex-line-requires-2 c κs =
-    let here = before-source (c .before .before) in
-    let k = known here in
-    let s = start here .args .slot .now in
-    (search needs, omega (arith, part-most sourceAt (sourceLengthOf s) s), search needs)
 
 returns : tie.Need-returns
 returns c =
@@ -78,9 +66,9 @@ write-named-spec =
     (λ c. omega (arith, c .shared-slice-known4 .given flagAt))
     (λ c κs. search needs) (λ c. search needs) (λ c. search needs) (λ c. search needs)
     (λ c. let k = known (before-keyid c) in omega arith)
-    write-hex-line-requires
+    (λ c κs. let s = before-keyid (c .before .before) in let k = known s in (search needs, omega (arith, part-most keyIdAt (keyIdLengthOf (slot s)) (slot s)), search needs))
     (λ c. search needs) (λ c. search needs) (λ c. search needs)
     (λ c. let k = known (before-source c) in omega arith)
-    write-hex-line-requires-2
+    (λ c κs. let s = before-source (c .before .before) in let k = known s in (search needs, omega (arith, part-most sourceAt (sourceLengthOf (slot s)) (slot s)), search needs))
     (λ c. search needs)
     returns)
