@@ -1,9 +1,8 @@
 // The gateway and the sender for C: five functions over the proved ones, with the same contracts. include/crisp.h declares and documents them.
-ghost use mathlib.Core.Path.{_≡_};
 ghost use Rattle.format.specs.KeyData.{handedIn};
-ghost use Rattle.entries.specs.Install.{installed, removed};
-ghost use Rattle.listing.specs.Listing.{listed};
-ghost use Rattle.gateway.specs.Receive.{received};
+ghost use Rattle.entries.specs.Install.{IsLeft, installed, removed};
+ghost use Rattle.listing.specs.Listing.{IsListed, listed};
+ghost use Rattle.gateway.specs.Receive.{IsReceived, received};
 ghost use Rattle.sender.specs.Protect.{Protects};
 use answers::Answer;
 use sender::Sender;
@@ -20,8 +19,7 @@ pub extern "C" fn crisp_install(
     key: &[u8],
     size: u64,
 ) -> Answer
-    ensures { λ r. ⌜ r ≡ installed (now (table .entry)) (handedIn flag (now (keyid .entry)) (now (source .entry)) suite (now (key .entry))) (record { size = size }) .answer ⌝ }
-    ensures { λ r. ⌜ now (table .exit) ≡ installed (now (table .entry)) (handedIn flag (now (keyid .entry)) (now (source .entry)) suite (now (key .entry))) (record { size = size }) .table ⌝ }
+    ensures { λ r. ⌜ IsLeft (installed (now (table .entry)) (handedIn flag (now (keyid .entry)) (now (source .entry)) suite (now (key .entry))) (record { size = size })) r (now (table .exit)) ⌝ }
 {
     entries::install(table, flag, keyid, source, suite, key, size)
 }
@@ -29,8 +27,7 @@ pub extern "C" fn crisp_install(
 // As `entries::remove`.
 #[no_mangle]
 pub extern "C" fn crisp_remove(table: &mut [u8; TABLE], slot: usize) -> Answer
-    ensures { λ r. ⌜ r ≡ removed (now (table .entry)) slot .answer ⌝ }
-    ensures { λ r. ⌜ now (table .exit) ≡ removed (now (table .entry)) slot .table ⌝ }
+    ensures { λ r. ⌜ IsLeft (removed (now (table .entry)) slot) r (now (table .exit)) ⌝ }
 {
     entries::remove(table, slot)
 }
@@ -43,9 +40,7 @@ pub extern "C" fn crisp_receive(
     source: &[u8],
     out: &mut [u8],
 ) -> Answer
-    ensures { λ r. ⌜ r ≡ received (now (table .entry)) (now (message .entry)) (now (source .entry)) (now (out .entry)) .answer ⌝ }
-    ensures { λ r. ⌜ now (table .exit) ≡ received (now (table .entry)) (now (message .entry)) (now (source .entry)) (now (out .entry)) .table ⌝ }
-    ensures { λ r. ⌜ now (out .exit) ≡ received (now (table .entry)) (now (message .entry)) (now (source .entry)) (now (out .entry)) .out ⌝ }
+    ensures { λ r. ⌜ IsReceived (received (now (table .entry)) (now (message .entry)) (now (source .entry)) (now (out .entry))) r (now (table .exit)) (now (out .exit)) ⌝ }
 {
     gateway::receive(table, message, source, out)
 }
@@ -53,8 +48,7 @@ pub extern "C" fn crisp_receive(
 // As `listing::listing`.
 #[no_mangle]
 pub extern "C" fn crisp_listing(table: &[u8; TABLE], slot: usize, out: &mut [u8]) -> Answer
-    ensures { λ r. ⌜ r ≡ listed (now (table .entry)) slot (now (out .entry)) .answer ⌝ }
-    ensures { λ r. ⌜ now (out .exit) ≡ listed (now (table .entry)) slot (now (out .entry)) .out ⌝ }
+    ensures { λ r. ⌜ IsListed (listed (now (table .entry)) slot (now (out .entry))) r (now (out .exit)) ⌝ }
 {
     listing::listing(table, slot, out)
 }

@@ -1,6 +1,6 @@
--- A fresh entry's slot: its length, what stands in it where, and when such a slot is undamaged.
+-- A fresh entry's slot: its length, what stands in it where, that it matches its key data, and that it is undamaged.
 -- Assumes nothing.
-use mathlib.Core.Path.{_≡_, ap, _∙_}
+use mathlib.Core.Path.{_≡_, sym, ap, _∙_}
 use mathlib.Core.Bool.{true}
 use mathlib.Core.List.{List, [], _∷_, _++_, map, append-assoc, append-nil}
 use Prim.Native.Nat.{ℕ, _-_, _^_, _≤_, _<_}
@@ -13,13 +13,16 @@ use Rattle.octets.specs.Octets.{bytesOf}
 use Rattle.octets.proofs.BigEndian.{length-bytes}
 use Rattle.format.proofs.Soundness.{Sound, sound-test, key-data-is}
 use Rattle.window.specs.Entry.{freshEntry}
-use Rattle.window.proofs.Entries.{UndamagedEntry, entry-test}
+use Rattle.window.specs.Window.{soundFrame}
+use Rattle.window.proofs.Entries.{entry-test, fresh-entry-undamaged}
+use Rattle.window.proofs.Undamaged.{frame-most}
 use Rattle.slots.specs.Table.{flagOf, csOf, keyIdLengthOf, keyIdOf, sourceLengthOf, sourceOf, keyOf, entryOf, slotLength, occupiedAt, startAt, highestAt, marksAt, acceptedAt, bytesAt, keyIdRoom, sourceRoom, keyDataOf}
 use Rattle.slots.specs.Record.{undamaged}
 use Rattle.entries.specs.Fresh.{padded, prefixed, headOf, freshSlot}
 use Rattle.entries.proofs.Bounds.{keyid-most, suite-byte}
-use Rattle.numbers.proofs.Tests.{and-both}
-use Rattle.slots.proofs.Settled.{SameKeys}
+use Rattle.slots.proofs.Damage.{undamaged-by-entry}
+use Rattle.lookup.specs.Lookup.{matches}
+use Rattle.lookup.proofs.Matching.{match-test}
 use Rattle.slots.proofs.Standing.{Lies, joined, ahead, lies, starts-with, piece, number, byte, zeros}
 use Rattle.entries.proofs.Stretches.{length-padded}
 
@@ -37,20 +40,8 @@ pub record Parts (k : KeyData) (s : List ℕ) : Type 0 where
   pub source-is : sourceOf s ≡ k .source
   pub key-is : keyOf s ≡ k .key
 
-pub parts-keydata : {k : KeyData} {s : List ℕ} → Parts k s → keyDataOf s ≡ k
+parts-keydata : {k : KeyData} {s : List ℕ} → Parts k s → keyDataOf s ≡ k
 parts-keydata p = key-data-is (p .flag-is) (p .keyid-is) (p .source-is) (p .cs-is) (p .key-is)
-
-pub same-parts : {k : KeyData} {s other : List ℕ} → SameKeys s other → Parts k s → Parts k other
-same-parts same p = record {
-  first = same .first ∙ p .first;
-  flag-is = same .flag ∙ p .flag-is;
-  cs-is = same .cs ∙ p .cs-is;
-  keyid-length = same .keyid-length ∙ p .keyid-length;
-  keyid-is = same .keyid ∙ p .keyid-is;
-  source-length = same .source-length ∙ p .source-length;
-  source-is = same .source ∙ p .source-is;
-  key-is = same .key ∙ p .key-is;
-}
 
 -- of key data that is sound, with a KeyId of bytes
 module _ {k : KeyData} (sound : Sound k) (b : getD (k .keyId) 0 0 < 256) (f : Frame) where
@@ -112,7 +103,25 @@ module _ {k : KeyData} (sound : Sound k) (b : getD (k .keyId) 0 0 < 256) (f : Fr
         zeros (slotLength - startAt) (there 10) (bytesAt - startAt) 8 (lit≤ tt),
       )
 
--- a slot with sound key data is undamaged where its entry is
-pub parts-undamaged : {k : KeyData} {s : List ℕ} → Sound k → Parts k s → UndamagedEntry (entryOf s) → undamaged s ≡ true
-unfolding undamaged
-parts-undamaged {k} {s} sound p w = and-both _ _ (ap soundOf (parts-keydata p) ∙ sound-test k sound) (entry-test (entryOf s) w)
+  -- it holds the key data, matches it, and is undamaged
+  pub fresh-keydata : keyDataOf (freshSlot k f) ≡ k
+  fresh-keydata = parts-keydata fresh-parts
+
+  pub fresh-matches : matches (k .flag) (k .keyId) (k .source) (freshSlot k f) ≡ true
+  fresh-matches =
+      let p = fresh-parts in
+      match-test (k .flag) (k .keyId) (k .source) (freshSlot k f)
+      (record {
+        held = λ e. omega (arith, p .first);
+        keyid-short = omega (arith, p .keyid-length, keyid-most sound b);
+        source-short = omega (arith, p .source-length, sound .source-most);
+        flag-same = p .flag-is;
+        keyid-same = p .keyid-is;
+      })
+      (λ other. p .source-is)
+
+  pub fresh-undamaged : soundFrame f ≡ true → undamaged (freshSlot k f) ≡ true
+  fresh-undamaged framed =
+      let s = freshSlot k f in
+      sym (undamaged-by-entry s (ap soundOf fresh-keydata ∙ sound-test k sound))
+      ∙ entry-test (entryOf s) (rw (fresh-entry (omega (arith, frame-most f framed))) (fresh-entry-undamaged f framed))

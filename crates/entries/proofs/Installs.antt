@@ -8,11 +8,16 @@ use Rattle.window.specs.Window.{soundFrame}
 use Rattle.window.specs.declared.Frame.{Frame}
 use Rattle.numbers.proofs.Tests.{and-left, and-right, and-both}
 use Rattle.answers.specs.Answers.{refused, unsound}
+use Rattle.answers.specs.declared.Answer.{Answer}
 use Rattle.format.specs.KeyData.{soundOf, KeyData}
 use Rattle.lookup.specs.Lookup.{leadsTo, firstFree}
 use Rattle.entries.specs.Fresh.{freshSlot}
-use Rattle.entries.specs.Install.{placed, unlessTwin, installed}
+use Rattle.entries.specs.Install.{Left, IsLeft, placed, unlessTwin, installed}
 use Rattle.lookup.specs.declared.Found.the-variants.{Nothing}
+
+-- an answer and a table are those that a call leaves
+pub is-left : {l : Left} {a b : Answer} {t u : List ℕ} → l ≡ record { answer = a; table = t } → b ≡ a → u ≡ t → IsLeft l b u
+is-left e p q = rw e (record { answers = p; leaves = q })
 
 -- what 13 refuses is not there
 pub record Fair (k : KeyData) (f : Frame) : Type 0 where

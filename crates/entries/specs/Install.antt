@@ -1,4 +1,5 @@
 -- Install and remove (01, "Replies"): install refuses with 13, 14, 15 in that order, remove with 16.
+use mathlib.Core.Path.{_≡_}
 use mathlib.Core.Bool.{cond, _&&_}
 use mathlib.Core.List.{List}
 use Prim.Native.Nat.{ℕ}
@@ -18,6 +19,11 @@ use Rattle.lookup.specs.declared.Found.the-variants.{At, Nothing}
 pub record Left : Type 0 where
   pub answer : Answer
   pub table : List ℕ
+
+-- what a contract says: the answer, and the table that was lent, are those
+pub record IsLeft (l : Left) (answer : Answer) (table : List ℕ) : Type 0 where
+  pub answers : answer ≡ l .answer
+  pub leaves : table ≡ l .table
 
 -- done at slot i: "install the slot taken and remove the slot freed, with length and SeqNum 0"
 abbrev pub doneAt : ℕ → Answer

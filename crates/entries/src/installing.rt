@@ -3,7 +3,7 @@ ghost use mathlib.Core.Path.{_≡_};
 ghost use lib.ListN.{length};
 ghost use Rattle.format.specs.KeyData.{keyed};
 ghost use Rattle.slots.specs.Table.{tableLength};
-ghost use Rattle.entries.specs.Install.{doneAt, installed, removed};
+ghost use Rattle.entries.specs.Install.{doneAt, IsLeft, installed, removed};
 use crate::filling;
 use answers::Answer;
 use format::key_data;
@@ -22,8 +22,7 @@ pub(crate) fn install_in(
     frame: Frame,
 ) -> Answer
     requires { ⌜ length (now table) ≡ tableLength ⌝ }
-    ensures { λ r. ⌜ r ≡ installed (now (table .entry)) (keyed terms (now (keyid .entry)) (now (source .entry)) (now (key .entry))) frame .answer ⌝ }
-    ensures { λ r. ⌜ now (table .exit) ≡ installed (now (table .entry)) (keyed terms (now (keyid .entry)) (now (source .entry)) (now (key .entry))) frame .table ⌝ }
+    ensures { λ r. ⌜ IsLeft (installed (now (table .entry)) (keyed terms (now (keyid .entry)) (now (source .entry)) (now (key .entry))) frame) r (now (table .exit)) ⌝ }
 {
     if !key_data::sound(terms, keyid, source, key) {
         return answers::refuse(answers::UNSOUND);
@@ -46,8 +45,7 @@ pub(crate) fn install_in(
 // Reply 16, or the slot cleared.
 pub(crate) fn remove_in(table: &mut [u8], slot: usize) -> Answer
     requires { ⌜ length (now table) ≡ tableLength ⌝ }
-    ensures { λ r. ⌜ r ≡ removed (now (table .entry)) slot .answer ⌝ }
-    ensures { λ r. ⌜ now (table .exit) ≡ removed (now (table .entry)) slot .table ⌝ }
+    ensures { λ r. ⌜ IsLeft (removed (now (table .entry)) slot) r (now (table .exit)) ⌝ }
 {
     if layout::SLOTS <= slot {
         return answers::refuse(answers::NO_SLOT);

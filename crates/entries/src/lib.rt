@@ -1,7 +1,6 @@
 // Entries put into the table that a caller lends, and taken out of it.
-ghost use mathlib.Core.Path.{_≡_};
 ghost use Rattle.format.specs.KeyData.{handedIn};
-ghost use Rattle.entries.specs.Install.{installed, removed};
+ghost use Rattle.entries.specs.Install.{IsLeft, installed, removed};
 use answers::Answer;
 use format::key_data::Terms;
 use slots::layout::TABLE;
@@ -21,8 +20,7 @@ pub fn install(
     key: &[u8],
     size: u64,
 ) -> Answer
-    ensures { λ r. ⌜ r ≡ installed (now (table .entry)) (handedIn flag (now (keyid .entry)) (now (source .entry)) suite (now (key .entry))) (record { size = size }) .answer ⌝ }
-    ensures { λ r. ⌜ now (table .exit) ≡ installed (now (table .entry)) (handedIn flag (now (keyid .entry)) (now (source .entry)) suite (now (key .entry))) (record { size = size }) .table ⌝ }
+    ensures { λ r. ⌜ IsLeft (installed (now (table .entry)) (handedIn flag (now (keyid .entry)) (now (source .entry)) suite (now (key .entry))) (record { size = size })) r (now (table .exit)) ⌝ }
 {
     let terms = Terms { flag, suite };
     let frame = Frame { size };
@@ -31,8 +29,7 @@ pub fn install(
 
 // The slot is freed and holds zeros only. Refuses with 16 (slot over 15, or free).
 pub fn remove(table: &mut [u8; TABLE], slot: usize) -> Answer
-    ensures { λ r. ⌜ r ≡ removed (now (table .entry)) slot .answer ⌝ }
-    ensures { λ r. ⌜ now (table .exit) ≡ removed (now (table .entry)) slot .table ⌝ }
+    ensures { λ r. ⌜ IsLeft (removed (now (table .entry)) slot) r (now (table .exit)) ⌝ }
 {
     installing::remove_in(table, slot)
 }

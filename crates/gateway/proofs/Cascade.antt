@@ -13,7 +13,9 @@ use Rattle.window.specs.Window.{verdictOf}
 use Rattle.window.specs.declared.Verdict.{Verdict}
 use Rattle.window.specs.declared.Verdict.the-variants.{Below, Marked, Admissible}
 use Rattle.format.specs.Header.{readOf, keyIdBytes, payloadLength}
-use Rattle.message.specs.Sealing.{right}
+use Rattle.message.specs.Sealing.{openedBy}
+use Rattle.message.specs.declared.sealing.Opened.{Opened}
+use Rattle.message.specs.declared.sealing.Opened.the-variants.{Payload, Wrong}
 use Rattle.format.specs.Suite.{numberOf}
 use Rattle.format.specs.declared.header.Header.{Header}
 use Rattle.format.specs.declared.header.Parsed.{Parsed}
@@ -23,7 +25,7 @@ use Rattle.lookup.specs.Lookup.{leadsTo}
 use Rattle.lookup.proofs.Firsts.{leads-small}
 use Rattle.slots.proofs.Replacing.{length-replaced}
 use Rattle.slots.proofs.Settled.{settledSlot, length-slot, as-replaced}
-use Rattle.gateway.specs.Receive.{Received, received, parsed, led, arrived, judged, checked, handedOut, kept}
+use Rattle.gateway.specs.Receive.{Received, received, parsed, led, arrived, judged, checked, unsealed, handedOut, kept}
 use Rattle.slots.specs.Record.{undamaged}
 use Rattle.slots.specs.Table.{slotOf, entryOf, csOf, windowOf, tableLength, keyDataOf}
 use Rattle.lookup.specs.declared.Found.{Found}
@@ -32,12 +34,15 @@ use Rattle.lookup.specs.declared.Found.the-variants.{At, Nothing}
 module _ (P : Received → Type 0) (t out : List ℕ) where
   -- at a slot
   module _ (i : ℕ) (h : Header) (m : List ℕ) (done : P (handedOut t i h m out)) where
+    by-icv : ((n : ℕ) → 8 ≤ n → P (kept t out n)) → (o : Opened) → P (unsealed o t i h m out)
+    by-icv refused (Payload n) = done
+    by-icv refused Wrong = refused wrongIcv (lit≤ tt)
+
     by-verdict : ((n : ℕ) → 8 ≤ n → P (kept t out n)) → (v : Verdict) → P (judged v t i h m out)
     unfolding checked
     by-verdict refused Below = refused belowFloor (lit≤ tt)
     by-verdict refused Marked = refused repeated (lit≤ tt)
-    by-verdict refused Admissible =
-        either P (right h (keyDataOf (slotOf t i)) m) (handedOut t i h m out) (kept t out wrongIcv) (λ _. done) (λ _. refused wrongIcv (lit≤ tt))
+    by-verdict refused Admissible = by-icv refused (openedBy h (keyDataOf (slotOf t i)) m)
 
     -- that is undamaged
     pub of-undamaged : ((n : ℕ) → 8 ≤ n → P (kept t out n))

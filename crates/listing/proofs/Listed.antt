@@ -16,7 +16,7 @@ use Rattle.answers.specs.Answers.{refused, outputRoom, outputSmall, damaged, no
 use Rattle.answers.specs.declared.Answer.{Answer}
 use Rattle.slots.specs.Table.{slotOf, occupied, flagOf, csOf, keyIdLengthOf, keyIdOf, sourceLengthOf, sourceOf, entryOf, slotLength, slotCount, occupiedAt, keyIdAt, sourceAt}
 use Rattle.slots.specs.Record.{undamaged}
-use Rattle.listing.specs.Listing.{namedLines, termLines, movedLines, listingOf, Listed, listed}
+use Rattle.listing.specs.Listing.{namedLines, termLines, movedLines, listingOf, Listed, IsListed, listed}
 use Rattle.text.proofs.Decimals.{length-decimal}
 use Rattle.text.proofs.Hex.{length-hex}
 use Rattle.slots.proofs.Slots.{slot-lent, slot-byte}
@@ -25,43 +25,42 @@ use Rattle.slots.proofs.Slots.{slot-lent, slot-byte}
 abbrev lent : List ℕ → ℕ → List ℕ
 lent t i = take (slotLength * i + slotLength - slotLength * i) (drop (slotLength * i) t)
 
--- an answer and an output are what a listing comes to
-abbrev Comes : List ℕ → ℕ → List ℕ → Answer → List ℕ → Type 0
-Comes t i out r o = (r ≡ listed t i out .answer) × (o ≡ listed t i out .out)
-
 module _ (t : List ℕ) (i : ℕ) (out : List ℕ) where
-  pub little-room : {r : Answer} → length out < outputRoom → r ≡ refused outputSmall → Comes t i out r out
+  pub little-room : {r : Answer} → length out < outputRoom → r ≡ refused outputSmall → IsListed (listed t i out) r out
   unfolding listed
-  little-room h e = rw (lt-ltb (length out) outputRoom h) (e, refl)
+  little-room h e = rw (lt-ltb (length out) outputRoom h) (record { answers = e; writes = refl })
 
   module _ (room : outputRoom ≤ length out) where
-    pub no-slot : {r : Answer} → slotCount ≤ i → r ≡ refused noSlot → Comes t i out r out
+    pub no-slot : {r : Answer} → slotCount ≤ i → r ≡ refused noSlot → IsListed (listed t i out) r out
     unfolding listed
-    no-slot h e = rw (le-ltb (length out) outputRoom room, le-ltb i slotCount h) (e, refl)
+    no-slot h e = rw (le-ltb (length out) outputRoom room, le-ltb i slotCount h) (record { answers = e; writes = refl })
 
     module _ (small : i < slotCount) where
       first : getD (slotOf t i) occupiedAt 0 ≡ getD t (slotLength * i) 0
       first = slot-byte t i occupiedAt (omega arith) ∙ rw add-zero
 
-      pub free-slot : {r : Answer} → getD t (slotLength * i) 0 ≡ 0 → r ≡ refused noSlot → Comes t i out r out
+      pub free-slot : {r : Answer} → getD t (slotLength * i) 0 ≡ 0 → r ≡ refused noSlot → IsListed (listed t i out) r out
       unfolding listed
-      free-slot h e = rw (le-ltb (length out) outputRoom room, eq-eqb (getD (slotOf t i) occupiedAt 0) 0 (first ∙ h), and-false) (e, refl)
+      free-slot h e = rw (le-ltb (length out) outputRoom room, eq-eqb (getD (slotOf t i) occupiedAt 0) 0 (first ∙ h), and-false) (record { answers = e; writes = refl })
 
       module _ (taken : getD t (slotLength * i) 0 ≡ 0 → ⊥) where
         busy : getD (slotOf t i) occupiedAt 0 ≡ 0 → ⊥
         busy z = taken (sym first ∙ z)
 
-        pub listing-damaged : {r : Answer} → undamaged (lent t i) ≡ false → r ≡ refused damaged → Comes t i out r out
+        pub listing-damaged : {r : Answer} → undamaged (lent t i) ≡ false → r ≡ refused damaged → IsListed (listed t i out) r out
         unfolding listed
         listing-damaged u e =
-            rw (le-ltb (length out) outputRoom room, lt-ltb i slotCount small, ne-eqb (getD (slotOf t i) occupiedAt 0) 0 busy, rw (slot-lent t i) at u) (e, refl)
+            rw (le-ltb (length out) outputRoom room, lt-ltb i slotCount small, ne-eqb (getD (slotOf t i) occupiedAt 0) 0 busy, rw (slot-lent t i) at u) (record { answers = e; writes = refl })
 
         pub all-written : {o : List ℕ} {e : ℕ} → undamaged (lent t i) ≡ true → e ≡ length (listingOf i (lent t i)) → o ≡ put out 0 (listingOf i (lent t i))
-            → Comes t i out (record { reply = 0; length = e; slot = i; seqnum = 0 }) o
+            → IsListed (listed t i out) (record { reply = 0; length = e; slot = i; seqnum = 0 }) o
         unfolding listed
         all-written {o} {e} u n w =
             rw (le-ltb (length out) outputRoom room, lt-ltb i slotCount small, ne-eqb (getD (slotOf t i) occupiedAt 0) 0 busy, rw (slot-lent t i) at u)
-            (ap (λ (m : ℕ). record { reply = 0; length = m; slot = i; seqnum = 0 }) (rw (slot-lent t i) at n), rw (slot-lent t i) at w)
+            (record {
+              answers = ap (λ (m : ℕ). record { reply = 0; length = m; slot = i; seqnum = 0 }) (rw (slot-lent t i) at n);
+              writes = rw (slot-lent t i) at w;
+            })
 
 -- ---- a listing fits
 

@@ -1,5 +1,6 @@
 -- 01's listing of an entry ("Numbers on both sides of the edge"), from `slot=` to `bytes=`: "Each line ends with a line feed. keyid, source,
 -- highest, marks are lower-case hex, two digits a byte, highest 12 digits and marks 64; the rest is decimal."
+use mathlib.Core.Path.{_≡_}
 use mathlib.Core.Bool.{cond, _&&_}
 use mathlib.Core.List.{List, [], _∷_, _++_}
 use Prim.Native.Nat.{ℕ, _+_}
@@ -69,6 +70,11 @@ listingOf i s = namedLines i s ++ termLines s ++ movedLines s
 pub record Listed : Type 0 where
   pub answer : Answer
   pub out : List ℕ
+
+-- what a contract says: the answer, and the output that was lent, are those
+pub record IsListed (l : Listed) (answer : Answer) (out : List ℕ) : Type 0 where
+  pub answers : answer ≡ l .answer
+  pub writes : out ≡ l .out
 
 -- 1: output buffer under 2,048 bytes; 16: slot over 15, or free; 7: record damaged. Done, it answers the text's length and the slot.
 unfoldable pub listed : List ℕ → ℕ → List ℕ → Listed

@@ -7,7 +7,7 @@ ghost use Rattle.octets.specs.Octets.{put};
 ghost use Rattle.answers.specs.Answers.{outputRoom};
 ghost use Rattle.slots.specs.Table.{slotLength, tableLength};
 ghost use Rattle.slots.specs.Record.{undamaged};
-ghost use Rattle.listing.specs.Listing.{namedLines, termLines, movedLines, listingOf, listed};
+ghost use Rattle.listing.specs.Listing.{namedLines, termLines, movedLines, listingOf, IsListed, listed};
 use answers::Answer;
 use slots::layout;
 use slots::layout::TABLE;
@@ -16,8 +16,7 @@ use slots::record;
 // The listing of the entry in a slot, from `slot=` to `bytes=`, is written at the start of the output; the answer has its length. Refuses with
 // 1 (output under 2,048 bytes), 16 (slot over 15, or free) and 7 (record damaged), in that order.
 pub fn listing(table: &[u8; TABLE], slot: usize, out: &mut [u8]) -> Answer
-    ensures { λ r. ⌜ r ≡ listed (now (table .entry)) slot (now (out .entry)) .answer ⌝ }
-    ensures { λ r. ⌜ now (out .exit) ≡ listed (now (table .entry)) slot (now (out .entry)) .out ⌝ }
+    ensures { λ r. ⌜ IsListed (listed (now (table .entry)) slot (now (out .entry))) r (now (out .exit)) ⌝ }
 {
     list_in(table, slot, out)
 }
@@ -25,8 +24,7 @@ pub fn listing(table: &[u8; TABLE], slot: usize, out: &mut [u8]) -> Answer
 // The same on a slice.
 fn list_in(table: &[u8], slot: usize, out: &mut [u8]) -> Answer
     requires { ⌜ length (now table) ≡ tableLength ⌝ }
-    ensures { λ r. ⌜ r ≡ listed (now (table .entry)) slot (now (out .entry)) .answer ⌝ }
-    ensures { λ r. ⌜ now (out .exit) ≡ listed (now (table .entry)) slot (now (out .entry)) .out ⌝ }
+    ensures { λ r. ⌜ IsListed (listed (now (table .entry)) slot (now (out .entry))) r (now (out .exit)) ⌝ }
 {
     if out.len() < answers::OUTPUT {
         return answers::refuse(answers::OUTPUT_SMALL);

@@ -1,10 +1,10 @@
 -- The lowest slot that passes a test: a turn and the ends of a loop that looks for it, and what the answer says.
 -- Assumes nothing.
-use mathlib.Core.Path.{_≡_, refl, sym, _∙_}
-use mathlib.Core.Bool.{Bool, true, false, cond, not, not-eq-not}
+use mathlib.Core.Path.{_≡_, refl, sym, ap, _∙_}
+use mathlib.Core.Bool.{Bool, true, false, cond, not, not-eq-not, true≢false}
 use mathlib.Core.List.{List}
 use Prim.Native.Nat.{ℕ, zero, suc, _+_, _-_, _≤_, _<_}
-use native.Mathlib.Decide.{decLt}
+use native.Mathlib.Decide.{decLt, ℕ-discrete}
 use native.Mathlib.Numerals.{add-one}
 use native.Mathlib.Omega.{arith}
 use borrow.Author.Tests.{not-true}
@@ -60,6 +60,32 @@ module _ (test : ℕ → Bool) where
       let r = reached n i k a b passes in
       let z : _≡_ {A = ℕ} 0 1 = cc in
       omega arith)
+
+  -- what is found among all slots is the lowest that passes, and the lowest that passes is found
+  pub lower : (i : ℕ) → firstFrom test slotCount 0 ≡ At i → (j : ℕ) → j < i → test j ≡ false
+  lower i e j l =
+      let small = found slotCount 0 i e .0 in
+      not-eq-not .0
+      (λ passes.
+      let r = reached slotCount 0 j (omega arith) (omega arith) passes in
+      let same : r .0 ≡ i = cc in
+      omega (arith, r .2))
+
+  pub lowest : (i : ℕ) → i < slotCount → test i ≡ true → ((j : ℕ) → j < i → test j ≡ false) → firstFrom test slotCount 0 ≡ At i
+  lowest i small passes fail =
+      let r = reached slotCount 0 i (omega arith) (omega arith) passes in
+      by (r .0) (r .1) (r .2) (found slotCount 0 (r .0) (r .1) .1) (ℕ-discrete (r .0) i)
+    where
+      by : (j : ℕ) → firstFrom test slotCount 0 ≡ At j → j ≤ i → test j ≡ true → Dec (j ≡ i) → firstFrom test slotCount 0 ≡ At i
+      by j e l p (yes same) = e ∙ ap At same
+      by j e l p (no other) = absurd (true≢false (sym p ∙ fail j (omega arith)))
+
+-- a slot that one test finds is found by another that it passes, where below it nothing passes the other alone
+pub found-too : (test other : ℕ → Bool) (i : ℕ) → firstFrom test slotCount 0 ≡ At i → other i ≡ true
+    → ((j : ℕ) → j < i → other j ≡ true → test j ≡ true) → firstFrom other slotCount 0 ≡ At i
+found-too test other i e passes both =
+    lowest other i (found test slotCount 0 i e .0) passes
+    (λ j l. not-eq-not .0 (λ p. true≢false (sym (both j l p) ∙ lower test i e j l)))
 
 module _ (t : List ℕ) (i : ℕ) where
   pub leads-small : (flag : ℕ) (keyId source : List ℕ) → leadsTo t flag keyId source ≡ At i → i < slotCount

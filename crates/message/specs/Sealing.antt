@@ -67,3 +67,6 @@ right h k m = rightUnder h (k .key) (k .source) m
 
 abbrev pub opened : Header → KeyData → List ℕ → List ℕ
 opened h k m = openedUnder h (k .key) (k .source) m
+
+abbrev pub openedBy : Header → KeyData → List ℕ → Opened
+openedBy h k m = openedAs h (k .key) (k .source) m

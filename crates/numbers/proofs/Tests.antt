@@ -1,7 +1,7 @@
--- Tests: two at once, what both say, and both from each; one that cannot be true; and what holds of either choice.
+-- Tests: two at once, what both say, and both from each; neither of two; one that cannot be true; and what holds of either choice.
 -- Assumes nothing.
 use mathlib.Core.Path.{_≡_, refl}
-use mathlib.Core.Bool.{Bool, true, false, cond, _&&_}
+use mathlib.Core.Bool.{Bool, true, false, cond, _&&_, _||_}
 
 pub and-left : (a b : Bool) → (a && b) ≡ true → a ≡ true
 and-left true b e = refl
@@ -14,6 +14,14 @@ and-right false b e = cc
 pub and-both : (a b : Bool) → a ≡ true → b ≡ true → (a && b) ≡ true
 and-both true b p q = q
 and-both false b p q = p
+
+pub neither-left : (a b : Bool) → (a || b) ≡ false → a ≡ false
+neither-left true b e = e
+neither-left false b e = refl
+
+pub neither-right : (a b : Bool) → (a || b) ≡ false → b ≡ false
+neither-right true b e = cc
+neither-right false b e = e
 
 pub refuted : (b : Bool) → (b ≡ true → ⊥) → false ≡ b
 refuted true bad = absurd (bad refl)

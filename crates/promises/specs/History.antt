@@ -1,136 +1,112 @@
--- Demand 3: what is counted of an entry, from its install and the calls after it alone, and what its slot must then hand out and hold.
+-- Demand 3, of a slot of a table: "Exactly the counted messages are handed out, and after each call the entry's two totals are how many
+-- different numbers were counted and the sum of their payload lengths." A history begins with any undamaged entry, a fresh one or one that
+-- has a past, and goes on until the entry is removed.
 use mathlib.Core.Path.{_≡_}
-use mathlib.Core.Bool.{Bool, true, false, cond, not, _&&_, _||_}
-use mathlib.Core.List.{List, [], _∷_, map}
-use Prim.Native.Nat.{ℕ, _+_, max}
-use lib.Dec.{eqb, ltb}
+use mathlib.Core.Bool.{Bool, true, false, cond}
+use mathlib.Core.List.{List, [], _∷_}
+use Prim.Native.Nat.{ℕ, _+_, _≤_}
 use lib.ListN.{length}
-use Rattle.answers.specs.Answers.{outputRoom}
-use Rattle.octets.specs.Octets.{Bytes, same}
-use Rattle.window.specs.Window.{floorAt}
-use Rattle.window.specs.declared.Frame.{Frame}
-use Rattle.format.specs.KeyData.{KeyData}
-use Rattle.format.specs.Suite.{numberOf}
-use Rattle.format.specs.Header.{readOf, payloadLength, keyIdBytes}
-use Rattle.message.specs.Sealing.{right}
+use Rattle.answers.specs.Answers.{outputRoom, otherSuite, belowFloor, repeated, wrongIcv}
 use Rattle.answers.specs.declared.Answer.{Answer}
+use Rattle.octets.specs.Octets.{Bytes}
+use Rattle.window.specs.Window.{floorOf, marked}
+use Rattle.format.specs.Header.{readOf}
 use Rattle.format.specs.declared.header.Header.{Header}
-use Rattle.format.specs.declared.header.Parsed.{Parsed}
-use Rattle.format.specs.declared.header.Parsed.the-variants.{Read, BadLength, BadVersion, BadSuite, TooShort}
-use Rattle.slots.specs.Table.{slotOf, entryOf}
+use Rattle.format.specs.declared.header.Parsed.the-variants.{Read}
+use Rattle.slots.specs.Table.{slotOf, windowOf, entryOf, keyDataOf, tableLength}
 use Rattle.slots.specs.Record.{undamaged}
-use Rattle.entries.specs.Install.{Left, installed, removed}
-use Rattle.gateway.specs.Receive.{received}
+use Rattle.lookup.specs.Lookup.{leadsTo}
+use Rattle.lookup.specs.declared.Found.the-variants.{At}
+use Rattle.gateway.specs.Receive.{Received}
+use Rattle.promises.specs.Calls.{Call, arrival, install, remove, OfBytes, called, results, isDone}
+use Rattle.promises.specs.Counted.{Beginning, Message, Told, apart, below, used, forged, new, messages, numbers, isIn, highestSince, isOf, told}
 
--- ---- calls on a table
+-- ---- where a history begins in a table
 
--- what an install is handed: an entry's key data, and what it settles of the window
-pub record Framed : Type 0 where
-  pub keys : KeyData
-  pub frame : Frame
+-- Slot i holds the beginning's entry, undamaged, and messages of its key data lead there. How it came there is not asked.
+pub record Begins (b : Beginning) (i : ℕ) (t : List ℕ) : Type 0 where
+  pub long : length t ≡ tableLength
+  pub keys : keyDataOf (slotOf t i) ≡ b .keys
+  pub leads : leadsTo t (b .keys .flag) (b .keys .keyId) (b .keys .source) ≡ At i
+  pub unharmed : undamaged (slotOf t i) ≡ true
+  pub frame : windowOf (slotOf t i) .frame ≡ b .frame
+  pub highest : windowOf (slotOf t i) .highest ≡ b .highest
+  -- below the floor nothing is marked, and whether a number was used is not asked
+  pub used : (n : ℕ) → floorOf (windowOf (slotOf t i)) ≤ n → marked (windowOf (slotOf t i)) n ≡ b .used n
+  pub accepted : entryOf (slotOf t i) .accepted ≡ b .accepted
+  pub bytes : entryOf (slotOf t i) .bytes ≡ b .bytes
 
-pub data Call : Type 0 where
-  -- a message, the source supplied with it, and the output
-  arrival : List ℕ → List ℕ → List ℕ → Call
-  install : Framed → Call
-  -- a slot
-  remove : ℕ → Call
+-- ---- how long it goes on, by what came back
 
-abbrev pub entered : List ℕ → Framed → Left
-entered t k = installed t (k .keys) (k .frame)
+-- "a removed entry's history is over": a removal that is done at slot i ends it; one that is refused does not
+abbrev pub ends : ℕ → Call → Answer → Bool
+ends i (arrival message source out) a = false
+ends i (install k f) a = false
+ends i (remove j) a = isDone i a
 
--- the table after a call and after several, as the functions' contracts say
-abbrev pub after : List ℕ → Call → List ℕ
-after t (arrival message source out) = received t message source out .table
-after t (install k) = entered t k .table
-after t (remove i) = removed t i .table
+-- calls of bytes, none of which ended it
+abbrev pub Unended : ℕ → List Call → List Received → Type 0
+Unended i (c ∷ cs) (r ∷ rs) = OfBytes c × (ends i c (r .answer) ≡ false) × Unended i cs rs
+Unended i (c ∷ cs) [] = ⊥
+Unended i [] rs = Unit {0}
 
-abbrev pub run : List ℕ → List Call → List ℕ
-run t [] = t
-run t (c ∷ cs) = run (after t c) cs
+abbrev pub GoesOn : ℕ → List ℕ → List Call → Type 0
+GoesOn i t cs = Unended i cs (results t cs)
 
--- a message by its number and its payload's length
-pub record Message : Type 0 where
-  pub number : ℕ
-  pub payload : ℕ
+-- calls of bytes of which none asks for the removal of slot i do not end it in any table (`spared`)
+abbrev pub Spares : ℕ → Call → Type 0
+Spares i (arrival message source out) = Unit {0}
+Spares i (install k f) = Unit {0}
+Spares i (remove j) = j ≡ i → ⊥
+
+abbrev pub SpareAll : ℕ → List Call → Type 0
+SpareAll i [] = Unit {0}
+SpareAll i (c ∷ cs) = OfBytes c × Spares i c × SpareAll i cs
+
+-- ---- what calls hand out at slot i, by their answers
 
 -- at most one message
 pub data Handed : Type 0 where
   nothing : Handed
   one : Message → Handed
 
--- what a call hands out at slot i, by its answer
-abbrev pub answered : ℕ → Answer → Handed
-answered i a = cond (eqb (a .reply) 0 && eqb (a .slot) i) (one (record { number = a .seqnum; payload = a .length })) nothing
+abbrev pub answered : ℕ → Call → Answer → Handed
+answered i (arrival message source out) a = cond (isDone i a) (one (record { number = a .seqnum; payload = a .length })) nothing
+answered i (install k f) a = nothing
+answered i (remove j) a = nothing
 
 abbrev pub handed : ℕ → List ℕ → Call → Handed
-handed i t (arrival message source out) = answered i (received t message source out .answer)
-handed i t (install k) = nothing
-handed i t (remove j) = nothing
+handed i t c = answered i c (called t c .answer)
 
--- a message is added to those before it, the latest first
+-- a message is added to those before it, the latest first; and all that several calls handed out, after what was handed out before
 abbrev pub noted : List Message → Handed → List Message
 noted past nothing = past
 noted past (one x) = x ∷ past
 
--- all that calls hand out at slot i, after what was handed out before
-abbrev pub handedBy : ℕ → List ℕ → List Message → List Call → List Message
-handedBy i t past [] = past
-handedBy i t past (c ∷ cs) = handedBy i (after t c) (noted past (handed i t c)) cs
+abbrev pub handedBy : ℕ → List Message → List Call → List Received → List Message
+handedBy i past (c ∷ cs) (r ∷ rs) = handedBy i (noted past (answered i c (r .answer))) cs rs
+handedBy i past (c ∷ cs) [] = past
+handedBy i past [] rs = past
 
--- ---- what is counted, from the calls alone
+-- ---- what is told of a call settles what is handed out and what is replied
 
--- "A message is of the entry that it leads to": it has the entry's flag and KeyId bytes and, for flag 1, came with its SourceIdentifier
-abbrev pub isOf : KeyData → Header → List ℕ → List ℕ → Bool
-isOf k h message source = eqb (k .flag) (h .flag) && same (k .keyId) (keyIdBytes h message) && (eqb (h .flag) 0 || same (k .source) source)
+-- what is counted is handed out
+abbrev pub countedOf : Told → Handed
+countedOf apart = nothing
+countedOf below = nothing
+countedOf used = nothing
+countedOf forged = nothing
+countedOf (new x) = one x
 
--- "It is genuine if none of replies 2, 3, 4, 5, 6 and 8 fits it and its ICV is right under that entry's key; the window plays no part."
-abbrev pub genuine : KeyData → Parsed → List ℕ → List ℕ → Handed
-genuine k (Read h) message source =
-    cond (isOf k h message source && eqb (k .suite) (numberOf (h .suite)) && right h k message)
-    (one (record { number = h .seqnum; payload = payloadLength h message })) nothing
-genuine k BadLength message source = nothing
-genuine k BadVersion message source = nothing
-genuine k BadSuite message source = nothing
-genuine k TooShort message source = nothing
+-- the reply to a message of the entry that comes with room and has a header that can be read
+abbrev pub replyTo : Told → ℕ
+replyTo apart = otherSuite
+replyTo below = belowFloor
+replyTo used = repeated
+replyTo forged = wrongIcv
+replyTo (new x) = 0
 
--- a genuine message that "came with room": no refusal by reply 1
-abbrev pub brought : Framed → Call → Handed
-brought k (arrival message source out) = cond (ltb (length out) outputRoom) nothing (genuine (k .keys) (readOf message) message source)
-brought k (install other) = nothing
-brought k (remove i) = nothing
-
--- the numbers of messages; the highest of some numbers, 0 where there is none; and whether a number is one of them
-abbrev pub numbers : List Message → List ℕ
-numbers past = map (λ (x : Message). x .number) past
-
-abbrev pub highestOf : List ℕ → ℕ
-highestOf [] = 0
-highestOf (n ∷ ns) = max (highestOf ns) n
-
-abbrev pub isIn : ℕ → List ℕ → Bool
-isIn n [] = false
-isIn n (m ∷ ms) = eqb n m || isIn n ms
-
--- "is not below the floor of the highest number counted before, and no counted message had its number"
-abbrev pub isNew : Frame → List ℕ → ℕ → Bool
-isNew frame counted n = not (ltb n (floorAt frame (highestOf counted))) && not (isIn n counted)
-
-abbrev pub provided : (ℕ → Bool) → Handed → Handed
-provided test nothing = nothing
-provided test (one x) = cond (test (x .number)) (one x) nothing
-
--- what is counted of a call, after the messages counted before it
-abbrev pub counts : Framed → List Message → Call → Handed
-counts k past c = provided (isNew (k .frame) (numbers past)) (brought k c)
-
--- all that is counted
-abbrev pub countedFrom : Framed → List Message → List Call → List Message
-countedFrom k past [] = past
-countedFrom k past (c ∷ cs) = countedFrom k (noted past (counts k past c)) cs
-
-abbrev pub counted : Framed → List Call → List Message
-counted k cs = countedFrom k [] cs
+-- ---- demand 3
 
 -- the different numbers of a list, each once; and the sum of payload lengths
 abbrev pub different : List ℕ → List ℕ
@@ -139,39 +115,22 @@ different (n ∷ ns) = cond (isIn n ns) (different ns) (n ∷ different ns)
 
 abbrev pub total : List Message → ℕ
 total [] = 0
-total (x ∷ past) = total past + x .payload
+total (x ∷ xs) = total xs + x .payload
 
--- ---- demand 3
-
--- messages and KeyIds are of bytes, as all that a caller can hand in is
-abbrev pub OfBytes : Call → Type 0
-OfBytes (arrival message source out) = Bytes message
-OfBytes (install k) = Bytes (k .keys .keyId)
-OfBytes (remove i) = Unit {0}
-
-abbrev pub AllOfBytes : List Call → Type 0
-AllOfBytes [] = Unit {0}
-AllOfBytes (c ∷ cs) = OfBytes c × AllOfBytes cs
-
--- the slot i is not removed
-abbrev pub Spares : ℕ → Call → Type 0
-Spares i (arrival message source out) = Unit {0}
-Spares i (install k) = Unit {0}
-Spares i (remove j) = j ≡ i → ⊥
-
--- calls of bytes, none of which removes the slot i
-abbrev pub SpareAll : ℕ → List Call → Type 0
-SpareAll i [] = Unit {0}
-SpareAll i (c ∷ cs) = OfBytes c × Spares i c × SpareAll i cs
-
--- The slot i of a table accounts for the messages counted so far.
-pub record Accounts (k : Framed) (i : ℕ) (t : List ℕ) (past : List Message) : Type 0 where
+-- Slot i of a table accounts for the past.
+pub record Accounts (b : Beginning) (i : ℕ) (t : List ℕ) (past : List Told) : Type 0 where
   -- exactly what is counted is handed out at the slot by the next call
-  pub exactly : (c : Call) → OfBytes c → handed i t c ≡ counts k past c
-  -- the totals: how many different numbers were counted, and the sum of their payload lengths
-  pub accepted : entryOf (slotOf t i) .accepted ≡ length (different (numbers past))
-  pub bytes : entryOf (slotOf t i) .bytes ≡ total past
+  pub exactly : (c : Call) → OfBytes c → handed i t c ≡ countedOf (told b past c)
+  -- a message of the entry that comes with room and has a header that can be read meets the reply that is told
+  pub replies : (message source out : List ℕ) → Bytes message → outputRoom ≤ length out → (h : Header) → readOf message ≡ Read h
+      → isOf (b .keys) h message source ≡ true → called t (arrival message source out) .answer .reply ≡ replyTo (told b past (arrival message source out))
+  -- the totals: what stood there, and how many different numbers were counted, and the sum of their payload lengths
+  pub accepted : entryOf (slotOf t i) .accepted ≡ b .accepted + length (different (numbers past))
+  pub bytes : entryOf (slotOf t i) .bytes ≡ b .bytes + total (messages past)
   -- no number was counted twice
   pub once : different (numbers past) ≡ numbers past
-  pub highest : entryOf (slotOf t i) .window .highest ≡ highestOf (numbers past)
-  pub not-damaged : undamaged (slotOf t i) ≡ true
+  pub highest : windowOf (slotOf t i) .highest ≡ highestSince b past
+  -- key data and frame stay, and the record is undamaged
+  pub keys : keyDataOf (slotOf t i) ≡ b .keys
+  pub frame : windowOf (slotOf t i) .frame ≡ b .frame
+  pub unharmed : undamaged (slotOf t i) ≡ true

@@ -12,11 +12,12 @@ use Rattle.octets.specs.Octets.{bigEndian, bytesOf, part, put}
 use Rattle.octets.proofs.BigEndian.{length-bytes}
 use Rattle.octets.proofs.Parts.{number-same, put-below, part-other, put-within}
 use Rattle.octets.proofs.Places.{length-put}
+use Rattle.format.proofs.Soundness.{key-data-is}
 use Rattle.window.specs.declared.Frame.{Frame}
 use Rattle.window.specs.Entry.{Entry}
 use Rattle.window.proofs.Entries.{UndamagedEntry, totals-small}
 use Rattle.window.proofs.Undamaged.{undamaged-facts, marks-small}
-use Rattle.slots.specs.Table.{slotOf, flagOf, csOf, keyIdLengthOf, keyIdOf, sourceLengthOf, sourceOf, keyOf, windowOf, entryOf, historyBytes, settled, replaced, slotLength, slotCount, tableLength, occupiedAt, flagAt, suiteAt, keyIdLengthAt, keyIdAt, keyIdRoom, sourceLengthAt, sourceAt, sourceRoom, keyAt, sizeAt, highestAt, replaysAt}
+use Rattle.slots.specs.Table.{slotOf, flagOf, csOf, keyIdLengthOf, keyIdOf, sourceLengthOf, sourceOf, keyOf, keyDataOf, windowOf, entryOf, historyBytes, settled, replaced, slotLength, slotCount, tableLength, occupiedAt, flagAt, suiteAt, keyIdLengthAt, keyIdAt, keyIdRoom, sourceLengthAt, sourceAt, sourceRoom, keyAt, sizeAt, highestAt, replaysAt}
 use Rattle.slots.proofs.Slots.{slot-length}
 use Rattle.slots.proofs.Standing.{Lies, joined, ahead, lies, number}
 
@@ -30,6 +31,9 @@ pub record SameKeys (s other : List ℕ) : Type 0 where
   pub source-length : sourceLengthOf other ≡ sourceLengthOf s
   pub source : sourceOf other ≡ sourceOf s
   pub key : keyOf other ≡ keyOf s
+
+pub same-keydata : {s other : List ℕ} → SameKeys s other → keyDataOf other ≡ keyDataOf s
+same-keydata same = key-data-is (same .flag) (same .keyid) (same .source) (same .cs) (same .key)
 
 -- ---- a slot
 

@@ -12,7 +12,7 @@ within : tie.Need-slice-reshare-prefix-write-all
 within c =
     let l = c .before .before .listing in
     let a = c .before .before .before .before .before .args in
-    omega (arith, ap (λ (r : Answer). r .length) (l .ensures .0), l .kept .1 .1 .0, listed-within (a .table .now) 0 (a .lines .now))
+    omega (arith, ap (λ (r : Answer). r .length) (l .ensures .answers), l .kept .1 .1 .0, listed-within (a .table .now) 0 (a .lines .now))
 
 slice-aggregate-write-all : tie.Need-slice-aggregate-write-all
 slice-aggregate-write-all c = sym (length-take-le (c .before .before .before .listing .result .length) _ (within (c .before)))

@@ -1,5 +1,5 @@
 -- `entries::installing::install_in` meets its contract, by the test that led to each answer. Assumes nothing.
-use mathlib.Core.Path.{_≡_, sym, ap, _∙_}
+use mathlib.Core.Path.{_≡_, refl, sym, ap, _∙_}
 use mathlib.Core.Bool.{true≢false}
 use mathlib.Core.List.{List}
 use Prim.Native.Nat.{ℕ}
@@ -13,7 +13,7 @@ use Rattle.entries.specs.Fresh.{freshSlot}
 use Rattle.entries.specs.Install.{Left, placed, unlessTwin, installed}
 use Rattle.entries.proofs.Bounds.{keyid-most}
 use Rattle.lookup.proofs.Firsts.{free-small}
-use Rattle.entries.proofs.Installs.{Fair, installs-not, installs, installs-alone}
+use Rattle.entries.proofs.Installs.{is-left, Fair, installs-not, installs, installs-alone}
 use Rattle.entries.proofs.installing.install_in.Statement.{statement}
 use Rattle.entries.proofs.installing.install_in.Tie as tie
 
@@ -41,14 +41,14 @@ returns c =
     let sound = c .before .before in
     let start = sound .before .before .before .before .before in
     let e = refuses start (λ f. true≢false (sym (f .sound) ∙ sym (sound .sound .ensures) ∙ not-true _ (c .before .if1 .taken))) in
-    (rw e (c .refuse .ensures), rw e)
+    is-left e (c .refuse .ensures) refl
 
 returns-2 : tie.Need-returns-2
 returns-2 c =
     let framed = c .before .before in
     let start = framed .before .before .before .before .before .before .before in
     let e = refuses start (λ f. true≢false (sym (f .framed) ∙ sym (framed .sound-frame .ensures) ∙ not-true _ (c .before .if2 .taken))) in
-    (rw e (c .refuse2 .ensures), rw e)
+    is-left e (c .refuse2 .ensures) refl
 
 -- past it
 abbrev start : tie.Else2 → tie.Start
@@ -67,7 +67,7 @@ returns-3 c =
     let else = led .before .before in
     let s = start else in
     let e = installs (table s) (keys s) (frame s) (fair else) ∙ ap (unlessTwin (table s) (fresh s)) (sym (led .leads-to .ensures) ∙ c .before .enum-told2 .given .1) in
-    (rw e (c .refuse3 .ensures), rw e)
+    is-left e (c .refuse3 .ensures) refl
 
 -- without a twin, the lowest free slot decides
 abbrev past : tie.After-first-free → tie.Else2
@@ -86,7 +86,7 @@ returns-4 c =
     let free = c .before .before .before in
     let s = start (past free) in
     let e = alone free ∙ ap (placed (table s) (fresh s)) (c .before .enum-told3 .given .1) in
-    (rw e (c .refuse4 .ensures), rw e)
+    is-left e (c .refuse4 .ensures) refl
 
 write-entry-requires : tie.Need-write-entry-requires
 write-entry-requires c κs =
@@ -108,7 +108,7 @@ returns-5 c =
     let free = taken .before .before in
     let s = start (past free) in
     let e = alone free ∙ ap (placed (table s) (fresh s)) (taken .free .given .1) in
-    (rw e (c .done-at .ensures), rw e (written .write-entry .ensures))
+    is-left e (c .done-at .ensures) (written .write-entry .ensures)
 
 pub install-in-spec : {M : Type 1} → statement M
 install-in-spec =

@@ -1,6 +1,8 @@
 -- `entries::installing::remove_in` meets its contract, by the test that led to each answer. Assumes nothing.
+use mathlib.Core.Path.{refl}
 use native.Mathlib.Omega.{arith}
 use borrow.Author.Needs.{needs}
+use Rattle.entries.proofs.Installs.{is-left}
 use Rattle.entries.proofs.Removing.{removes-over, removes-free, removes}
 use Rattle.slots.proofs.Slots.{slot-free, slot-held}
 use Rattle.entries.proofs.installing.remove_in.Statement.{statement}
@@ -10,19 +12,19 @@ returns : tie.Need-returns
 returns c =
     let a = c .before .before .before .args in
     let e = removes-over (a .table .now) (a .slot) (c .before .if1 .taken) in
-    (rw e (c .refuse .ensures), rw e)
+    is-left e (c .refuse .ensures) refl
 
 returns-2 : tie.Need-returns-2
 returns-2 c =
     let a = c .before .before .before .before .before .args in
     let e = removes-free (a .table .now) (a .slot) (slot-free (a .table .now) (a .slot) (c .before .if2 .taken)) in
-    (rw e (c .refuse2 .ensures), rw e)
+    is-left e (c .refuse2 .ensures) refl
 
 returns-3 : tie.Need-returns-3
 returns-3 c =
     let a = c .before .before .before .before .before .before .before .before .before .args in
     let e = removes (a .table .now) (a .slot) (omega arith) (slot-held (a .table .now) (a .slot) (c .before .before .before .before .before .if2 .left)) in
-    (rw e (c .done-at .ensures), rw e (c .before .before .before .clear .ensures))
+    is-left e (c .done-at .ensures) (c .before .before .before .clear .ensures)
 
 pub remove-in-spec : {M : Type 1} → statement M
 remove-in-spec =
