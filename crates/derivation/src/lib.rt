@@ -51,10 +51,11 @@ fn write_data(suite: Suite, source: &[u8], seqnum: u64, out: &mut [u8])
     octets::write(out, at + 3, 2, suite.output_bits());
 }
 
-// The eight words of four blocks, each the check value of the data with the block's number in its first byte.
+// The eight words of four blocks, each the check value of the data with the block's number in its first byte, where the last one stays.
 fn key_of_blocks(base: &[u32; 8], subkeys: Subkeys, bytes: &mut [u8], first: u8) -> [u32; 8]
     requires { ⌜ (1 ≤ length (now bytes)) × (first < 6) ⌝ }
     ensures { λ r. ⌜ r ≡ blockWords (λ i. checkWith 8 (encrypted (now (base .entry))) (subkeys .first) (subkeys .second) (i ∷ drop 1 (now (bytes .entry)))) first 4 ⌝ }
+    ensures { λ _. ⌜ now (bytes .exit) ≡ (first + 3) ∷ drop 1 (now (bytes .entry)) ⌝ }
 {
     let mut words = [0u32; 8];
     let mut k: usize = 0;

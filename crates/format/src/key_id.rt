@@ -12,7 +12,7 @@ pub enum KeyId {
 
 impl KeyId {
     // The KeyId that begins with the byte `first`, which stands at `at`.
-    pub fn starting(first: u8, at: usize) -> KeyId
+    pub(crate) fn starting(first: u8, at: usize) -> KeyId
         requires { ⌜ at < 4096 ⌝ }
         ensures { λ r. ⌜ r ≡ keyIdStarting first at ⌝ }
     {

@@ -65,7 +65,7 @@ impl Suite {
     }
 
     // How many blocks derivation makes.
-    pub fn blocks(self) -> u8
+    fn blocks(self) -> u8
         ensures { λ r. ⌜ r ≡ blocksOf self ⌝ }
     {
         match self {

@@ -44,7 +44,7 @@ fn pair(high: u32, low: u32) -> u64 {
 }
 
 // Suite, SeqNum, flag, KeyId and payload: the message is written into the output. Answers its length.
-pub fn seal(operands: &[u8], out: &mut [u8]) -> usize {
+fn seal(operands: &[u8], out: &mut [u8]) -> usize {
     let key = script::operand(operands, 0);
     if key.len() != 32 {
         return GREATEST;
@@ -83,7 +83,7 @@ pub fn seal(operands: &[u8], out: &mut [u8]) -> usize {
 }
 
 // The payload of a message is written into the output. Answers its length.
-pub fn open(operands: &[u8], message: &[u8], out: &mut [u8]) -> usize {
+fn open(operands: &[u8], message: &[u8], out: &mut [u8]) -> usize {
     let key = script::operand(operands, 0);
     if key.len() != 32 {
         return GREATEST;

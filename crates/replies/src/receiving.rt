@@ -2,7 +2,7 @@
 use answers::OUTPUT;
 use slots::layout::TABLE;
 
-pub fn reply(command: usize, operands: &[u8], table: &mut [u8; TABLE]) -> u64 {
+pub(crate) fn reply(command: usize, operands: &[u8], table: &mut [u8; TABLE]) -> u64 {
     match command {
         0 | 3 => install(operands, table),
         1 => remove(operands, table),

@@ -51,7 +51,7 @@ pub fn number(memory: &[u8], number: usize) -> u64 {
 }
 
 // A line's operands are read into the memory. Answers how many there are, or a number that no command takes where one cannot be read.
-pub fn read(line: &[u8], memory: &mut [u8]) -> usize {
+pub(crate) fn read(line: &[u8], memory: &mut [u8]) -> usize {
     let name = name_end(line);
     let end = until(line, name, b'=');
     let mut at = until(line, name + 2, b' ') + 1;
@@ -140,7 +140,7 @@ fn decimal(digits: &[u8]) -> usize {
 }
 
 // What a hex digit stands for, or 256 where it is none.
-pub fn digit(byte: u8) -> u64
+pub(crate) fn digit(byte: u8) -> u64
     ensures { λ r. ⌜ r ≤ 256 ⌝ }
 {
     match byte {

@@ -30,7 +30,7 @@ pub fn until(text: &[u8], from: usize, byte: u8) -> usize
 }
 
 // Where a line's name ends: at the last colon, or with the line where it has none.
-pub fn name_end(line: &[u8]) -> usize
+pub(crate) fn name_end(line: &[u8]) -> usize
     ensures { λ r. ⌜ r ≤ length (now (line .entry)) ⌝ }
 {
     let mut at = line.len();

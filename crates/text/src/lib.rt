@@ -33,7 +33,7 @@ pub fn write_hex_line(name: &[u8], bytes: &[u8], out: &mut [u8], at: usize) -> u
 }
 
 // A number in decimal is written at `at`. Answers where it ends.
-pub fn write_decimal(number: u64, out: &mut [u8], at: usize) -> usize
+fn write_decimal(number: u64, out: &mut [u8], at: usize) -> usize
     requires { ⌜ at + 20 ≤ length (now out) ⌝ }
     ensures { λ r. ⌜ (r ≡ at + length (decimalOf number)) × (r ≤ at + 20) ⌝ }
     ensures { λ r. ⌜ now (out .exit) ≡ put (now (out .entry)) at (decimalOf number) ⌝ }
@@ -48,7 +48,7 @@ pub fn write_decimal(number: u64, out: &mut [u8], at: usize) -> usize
 }
 
 // Bytes in hex, two digits each, are written at `at`.
-pub fn write_hex(bytes: &[u8], out: &mut [u8], at: usize)
+fn write_hex(bytes: &[u8], out: &mut [u8], at: usize)
     requires { ⌜ at + 2 * length (now bytes) ≤ length (now out) ⌝ }
     ensures { λ _. ⌜ now (out .exit) ≡ put (now (out .entry)) at (hexOf (now (bytes .entry))) ⌝ }
 {

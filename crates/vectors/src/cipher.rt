@@ -2,7 +2,7 @@
 use magma::Halves;
 
 // 0: the step t of a word. 1: the step g of a key word and a word. 2: a round with a key word on a block, and of the block after it the low half.
-pub fn of_word(command: usize, operands: &[u8]) -> u64 {
+pub(crate) fn of_word(command: usize, operands: &[u8]) -> u64 {
     let rows = magma::table();
     let word = script::word(operands, 0);
     let block = halves(script::number(operands, 1));
@@ -15,7 +15,7 @@ pub fn of_word(command: usize, operands: &[u8]) -> u64 {
 
 // With a key, 3: its word of a number, from 0. 4: eight rounds with its words in order on a block, 5: in reverse, and of the block after them the low
 // half. 6: the block that it makes of a block.
-pub fn of_key(command: usize, operands: &[u8]) -> u64 {
+pub(crate) fn of_key(command: usize, operands: &[u8]) -> u64 {
     let rows = magma::table();
     let key = message_calls::key(operands);
     let number = script::number(operands, 1);

@@ -1,6 +1,6 @@
 // Counter mode and check value with Magma, with a key.
 // 7 and 8: the two subkeys. 9: the check value of a text; 10: its leading 32 bits.
-pub fn value(command: usize, operands: &[u8]) -> u64 {
+pub(crate) fn value(command: usize, operands: &[u8]) -> u64 {
     let key = message_calls::key(operands);
     let subkeys = modes::subkeys_of(&key);
     let check = modes::check_value(&key, script::operand(operands, 1));
@@ -13,7 +13,7 @@ pub fn value(command: usize, operands: &[u8]) -> u64 {
 }
 
 // The counter's high half, a text, and how many bytes are shown of the output, which held 0xaa.
-pub fn counter(line: &[u8], operands: &[u8]) {
+pub(crate) fn counter(line: &[u8], operands: &[u8]) {
     let key = message_calls::key(operands);
     let text = script::operand(operands, 2);
     let mut out = [0xaau8; 256];

@@ -28,7 +28,7 @@ lent c =
 returns : tie.Need-returns
 returns c =
     let start = c .before .before .before .before .before .before .before in
-    rw (c .before .key-of-blocks .ensures, start .pre .0, start .pre .1, front (c .before .before))
+    rw (c .before .key-of-blocks .ensures .0, start .pre .0, start .pre .1, front (c .before .before))
 
 pub derived-key-spec : {M : Type 1} → statement M
 derived-key-spec =

@@ -1,16 +1,16 @@
 -- `derivation::key_of_blocks` meets its contract. The loop's invariant: the words of the blocks passed are stored, and of the data only
 -- the first byte changes. Assumes nothing.
-use mathlib.Core.Path.{_≡_, refl, _∙_}
+use mathlib.Core.Path.{_≡_, refl}
 use mathlib.Core.List.{_∷_}
 use Prim.Native.Nat.{_+_, _-_, _*_, _≤_}
 use native.Mathlib.Omega.{arith}
 use borrow.Author.Needs.{needs}
 use lib.ListN.{length, take, drop, length-set}
-use lib.Seq.{set-split, drop-set-lt}
+use lib.Seq.{set-split}
 use Rattle.magma.specs.Magma.{encrypted}
 use Rattle.modes.specs.Modes.{checkWith}
 use Rattle.derivation.specs.Derivation.{blockWords}
-use Rattle.derivation.proofs.Keys.{one-block, all-blocks}
+use Rattle.derivation.proofs.Keys.{numbered, numbered-rest, numbered-next, one-block, all-blocks}
 use Rattle.derivation.proofs.key_of_blocks.Statement.{statement}
 use Rattle.derivation.proofs.key_of_blocks.Tie as tie
 
@@ -19,7 +19,7 @@ Inv-loop base subkeys bytes₀ first words₀ k₀ bytes words k =
     (k ≤ 4)
     × (length words ≡ 8)
     × (length bytes ≡ length bytes₀)
-    × (drop 1 bytes ≡ drop 1 bytes₀)
+    × (bytes ≡ numbered bytes₀ first k)
     × (take (2 * k) words ≡ blockWords (λ i. checkWith 8 (encrypted base) (subkeys .first) (subkeys .second) (i ∷ drop 1 bytes₀)) first k)
 
 abbrev μ-loop : tie.MeasureT-loop
@@ -37,15 +37,16 @@ loop-again c =
       search needs,
       search needs,
       simp length-set (l .inv .2),
-      drop-set-lt 1 (l .bytes) 0 number (omega arith) ∙ l .inv .3,
+      rw (l .inv .3) (numbered-next (a .bytes .now) (a .first) (l .k) (omega arith)),
       one-block _ (a .first) (l .words) (l .k) (l .inv .4) (c .check-with .result) (omega arith)
-          (rw (c .check-with .ensures, set-split (l .bytes) 0 number (omega arith), l .inv .3)),
+          (rw (c .check-with .ensures, set-split (l .bytes) 0 number (omega arith), l .inv .3, numbered-rest (a .bytes .now) (a .first) (l .k))),
     )
 
 returns : tie.Need-returns Inv-loop μ-loop
 returns c =
     let l = c .before .loop in
-    all-blocks _ (c .before .before .before .args .first) (l .words) (l .k) (l .inv .4) 4 (omega arith) (l .inv .1)
+    let all : l .k ≡ 4 = omega arith in
+    (all-blocks _ (c .before .before .before .args .first) (l .words) (l .k) (l .inv .4) 4 all (l .inv .1), rw (l .inv .3, all))
 
 pub key-of-blocks-spec : {M : Type 1} → statement M
 key-of-blocks-spec =
