@@ -6,28 +6,14 @@ use Prim.Native.Nat.{ℕ}
 use Rattle.window.specs.declared.Frame.{Frame}
 use Rattle.format.specs.KeyData.{KeyData}
 use Rattle.answers.specs.declared.Answer.{Answer}
-use Rattle.entries.specs.Install.{Left, installed, removed}
-use Rattle.listing.specs.Listing.{Listed, listed}
-use Rattle.gateway.specs.Receive.{Received, received}
+use Rattle.entries.specs.Install.{Left, IsLeft, installed, removed}
+use Rattle.listing.specs.Listing.{IsListed, listed}
+use Rattle.gateway.specs.Receive.{IsReceived, received}
 use Rattle.sender.specs.Protect.{Protects, withNumber}
 use Rattle.sender.specs.declared.Sender.{Sender}
 
 same : {A : Type 0} {x y z : A} → x ≡ z → y ≡ z → x ≡ y
 same p q = p ∙ sym q
-
--- what the contracts say of an answer and of what was lent, over what the definition leaves
-pub record IsLeft (l : Left) (answer : Answer) (table : List ℕ) : Type 0 where
-  pub answers : answer ≡ l .answer
-  pub leaves : table ≡ l .table
-
-pub record IsReceived (r : Received) (answer : Answer) (table out : List ℕ) : Type 0 where
-  pub answers : answer ≡ r .answer
-  pub leaves : table ≡ r .table
-  pub writes : out ≡ r .out
-
-pub record IsListed (l : Listed) (answer : Answer) (out : List ℕ) : Type 0 where
-  pub answers : answer ≡ l .answer
-  pub writes : out ≡ l .out
 
 module _ {a b : Answer} {t u : List ℕ} where
   left-determined : {l : Left} → IsLeft l a t → IsLeft l b u → (a ≡ b) × (t ≡ u)

@@ -1,134 +1,194 @@
--- Demand 3: from an install answered 0 at slot i, after any calls that do not remove it, the slot hands out exactly what is counted and its
--- totals are those of what was counted; and what an auditor reads off that.
+-- Demand 3: from where a history begins in slot i, after any calls that do not end it, the slot hands out exactly what is counted, and its
+-- totals are what stood there and what was counted; what an auditor reads off that; the same of calls that were made; and the case of an install.
 -- Assumes nothing.
-use mathlib.Core.Path.{_≡_, refl, sym, ap, _∙_}
-use mathlib.Core.Bool.{Bool, true, false, cond, true≢false, not-eq-not}
+use mathlib.Core.Path.{_≡_, refl, sym, ap, subst, _∙_}
+use mathlib.Core.Bool.{Bool, true, false, cond, _&&_, _||_, true≢false, not-eq-not}
 use mathlib.Core.List.{List, [], _∷_, _++_}
-use Prim.Native.Nat.{ℕ}
+use Prim.Native.Nat.{ℕ, _+_}
 use native.Mathlib.Omega.{arith}
 use borrow.Author.Tests.{eq-eqb}
-use lib.Dec.{ltb}
+use lib.Dec.{eqb, ltb}
 use lib.ListN.{length}
 use Rattle.answers.specs.Answers.{outputRoom}
 use Rattle.octets.specs.Octets.{Bytes, put}
-use Rattle.format.specs.Header.{readOf, keyIdBytes}
-use Rattle.message.specs.Sealing.{opened}
+use Rattle.numbers.proofs.Tests.{either}
+use Rattle.window.specs.declared.Frame.{Frame}
+use Rattle.format.specs.Header.{readOf, payloadLength, keyIdBytes}
+use Rattle.format.specs.KeyData.{KeyData}
+use Rattle.format.specs.Suite.{numberOf}
 use Rattle.format.specs.declared.header.Header.{Header}
 use Rattle.format.specs.declared.header.Parsed.{Parsed}
 use Rattle.format.specs.declared.header.Parsed.the-variants.{Read, BadLength, BadVersion, BadSuite, TooShort}
+use Rattle.message.specs.Sealing.{right, opened}
 use Rattle.slots.specs.Table.{slotOf, entryOf, tableLength}
 use Rattle.lookup.specs.Lookup.{leadsTo}
-use Rattle.entries.specs.Install.{doneAt}
-use Rattle.gateway.specs.Receive.{kept, parsed, received}
 use Rattle.lookup.specs.declared.Found.the-variants.{At}
-use Rattle.promises.specs.History.{Framed, Call, arrival, install, entered, after, run, Message, nothing, one, handed, handedBy, isOf, genuine, brought, numbers, isIn, isNew, provided, counts, noted, countedFrom, counted, OfBytes, AllOfBytes, Spares, SpareAll, Accounts}
-use Rattle.promises.proofs.Held.{Sane, names-facts, names-test, leads-here, leads-named}
+use Rattle.entries.specs.Install.{doneAt, installed}
+use Rattle.gateway.specs.Receive.{Received, kept, parsed, received}
 use Rattle.gateway.proofs.Cascade.{NotSeven, never-seven}
-use Rattle.numbers.proofs.Tests.{either}
+use Rattle.promises.specs.Calls.{Call, arrival, install, OfBytes, AllOfBytes, called, after, run, results, Trace, lastOf}
+use Rattle.promises.specs.Counted.{Beginning, fresh, Message, messages, numbers, highestOf, isIn, isBelow, isUsed, isOf, Told, apart, new, tested, toldOf, told, toldFrom, toldBy, counted, isGenuine}
+use Rattle.promises.specs.History.{Begins, nothing, one, handed, handedBy, Unended, GoesOn, countedOf, different, total, Accounts}
+use Rattle.promises.specs.Replies.{noneOf, receiveReplies, ledTo, isAt}
+use Rattle.promises.proofs.Beginnings.{install-begins}
+use Rattle.promises.proofs.Counting.{stays-in, counted-new, counted-told}
+use Rattle.promises.proofs.Genuine.{genuine-held}
+use Rattle.promises.proofs.Held.{names-facts, names-test, leads-here, leads-named}
 use Rattle.promises.proofs.Lengths.{run-long, run-append}
+use Rattle.promises.proofs.Runs.{begun, stands-on, hands-on, accounts}
 use Rattle.promises.proofs.Steps.{Stands, arrives, step}
-use Rattle.promises.proofs.Runs.{begins, stands-on, hands-on, stays-in, accounts, counted-new}
+use Rattle.promises.proofs.Traces.{trace-results, trace-run}
 
--- an install answered 0 at slot i
-module _ (t : List ℕ) (long : length t ≡ tableLength) (k : Framed) (b : Bytes (k .keys .keyId)) (i : ℕ) (done : entered t k .answer ≡ doneAt i) where
-  -- the table after it and after further calls
-  abbrev pub afterwards : List Call → List ℕ
-  afterwards cs = run (after t (install k)) cs
+-- a history that begins in slot i of a table
+module _ {b : Beginning} {i : ℕ} {t : List ℕ} (begins : Begins b i t) where
+  stands : (cs : List Call) → GoesOn i t cs → Stands b i (run t cs) (toldBy b cs)
+  stands cs goes = stands-on (begun begins) cs goes
 
-  sane : Sane k i
-  sane = begins t long k b i done .0
-
-  standing : (cs : List Call) → SpareAll i cs → Stands k i (afterwards cs) (counted k cs)
-  standing cs s = stands-on sane (begins t long k b i done .1) cs s
-
-  pub history : (cs : List Call) → SpareAll i cs → Accounts k i (afterwards cs) (counted k cs)
-  history cs s = accounts sane (standing cs s)
+  pub history : (cs : List Call) → GoesOn i t cs → Accounts b i (run t cs) (toldBy b cs)
+  history cs goes = accounts (stands cs goes)
 
   -- ---- what an auditor reads off it
 
   -- All that was handed out at the slot is all that was counted.
-  pub all-handed : (cs : List Call) → SpareAll i cs → handedBy i (after t (install k)) [] cs ≡ counted k cs
-  all-handed cs s = hands-on sane (begins t long k b i done .1) cs s
+  pub all-handed : (cs : List Call) → GoesOn i t cs → handedBy i [] cs (results t cs) ≡ counted b cs
+  all-handed cs goes = hands-on (begun begins) cs goes
 
   -- No number is handed out twice: not by a call c and, after any calls ds, by a call d.
-  pub no-number-twice : (cs : List Call) → SpareAll i cs → (c : Call) → OfBytes c → Spares i c → (ds : List Call) → SpareAll i ds → (d : Call) → OfBytes d
-      → (x y : Message) → handed i (afterwards cs) c ≡ one x → handed i (run (after (afterwards cs) c) ds) d ≡ one y → x .number ≡ y .number → ⊥
-  no-number-twice cs s c bc sc ds sd d bd x y gave gives same =
-      let first = step sane (standing cs s) c bc sc in
-      let past = noted (counted k cs) (counts k (counted k cs) c) in
-      let later = accounts sane (stands-on sane (first .stands) ds sd) in
-      let was : counts k (counted k cs) c ≡ one x = sym (first .gives) ∙ gave in
-      let there : isIn (x .number) (numbers past) ≡ true = rw (was, eq-eqb (x .number) (x .number) refl) in
-      let new : isIn (y .number) (numbers (countedFrom k past ds)) ≡ false =
-      counted-new (k .frame) (numbers (countedFrom k past ds)) (brought k d) y (sym (later .exactly d bd) ∙ gives) in
-      true≢false (sym (rw same at (stays-in sane (x .number) past there ds)) ∙ new)
+  pub no-number-twice : (cs : List Call) → GoesOn i t cs → (c : Call) (ds : List Call) → GoesOn i (run t cs) (c ∷ ds) → (d : Call) → OfBytes d
+      → (x y : Message) → handed i (run t cs) c ≡ one x → handed i (run (run t cs) (c ∷ ds)) d ≡ one y → x .number ≡ y .number → ⊥
+  no-number-twice cs goes c ds further d bytes x y gave gives same =
+      let first = step (stands cs goes) c (further .0) (further .1) in
+      let past = told b (toldBy b cs) c ∷ toldBy b cs in
+      let later = accounts (stands-on (first .stands) ds (further .2)) in
+      let there : isIn (x .number) (numbers past) ≡ true =
+      rw (counted-told (told b (toldBy b cs) c) x (sym (first .gives) ∙ gave), eq-eqb (x .number) (x .number) refl) in
+      let end = toldFrom b past ds in
+      let unmet = counted-new b end d y (counted-told (told b end d) y (sym (later .exactly d bytes) ∙ gives)) in
+      true≢false (sym (rw same at (stays-in b (x .number) past there ds)) ∙ unmet .uncounted)
 
-  module _ (cs : List Call) (s : SpareAll i cs) where
+  module _ (cs : List Call) (goes : GoesOn i t cs) where
+    -- Nor is a number handed out that was used where the history began.
+    pub no-used-number : (c : Call) → OfBytes c → (x : Message) → handed i (run t cs) c ≡ one x → b .used (x .number) ≡ false
+    no-used-number c bytes x gave =
+        counted-new b (toldBy b cs) c x (counted-told (told b (toldBy b cs) c) x (sym (history cs goes .exactly c bytes) ∙ gave)) .unused
+
     -- A message leads to the slot exactly if it is of the entry.
-    pub of-leads : (h : Header) (message source : List ℕ) → isOf (k .keys) h message source ≡ true
-        → leadsTo (afterwards cs) (h .flag) (keyIdBytes h message) source ≡ At i
+    pub of-leads : (h : Header) (message source : List ℕ) → isOf (b .keys) h message source ≡ true
+        → leadsTo (run t cs) (h .flag) (keyIdBytes h message) source ≡ At i
     of-leads h message source e =
-        leads-here sane (standing cs s .held) (h .flag) (keyIdBytes h message) source (names-facts k (h .flag) (keyIdBytes h message) source e)
+        leads-here (stands cs goes .held) (h .flag) (keyIdBytes h message) source (names-facts (b .keys) (h .flag) (keyIdBytes h message) source e)
 
-    pub leads-of : (h : Header) (message source : List ℕ) → leadsTo (afterwards cs) (h .flag) (keyIdBytes h message) source ≡ At i
-        → isOf (k .keys) h message source ≡ true
+    pub leads-of : (h : Header) (message source : List ℕ) → leadsTo (run t cs) (h .flag) (keyIdBytes h message) source ≡ At i
+        → isOf (b .keys) h message source ≡ true
     leads-of h message source e =
-        names-test k (h .flag) (keyIdBytes h message) source (leads-named sane (standing cs s .held) (h .flag) (keyIdBytes h message) source e)
+        names-test (b .keys) (h .flag) (keyIdBytes h message) source (leads-named (stands cs goes .held) (h .flag) (keyIdBytes h message) source e)
+
+    -- "It is genuine if none of replies 2, 3, 4, 5, 6 and 8 fits it and its ICV is right under that entry's key", of the entry that it leads to.
+    pub genuine-tests : (message source out : List ℕ)
+        → isGenuine (b .keys) (readOf message) message source
+        ≡ (noneOf (2 ∷ 3 ∷ 4 ∷ 5 ∷ 6 ∷ 8 ∷ 11 ∷ []) (receiveReplies (run t cs) message source out) && isAt i (ledTo (run t cs) message source))
+    genuine-tests message source out = genuine-held (stands cs goes .held) message source out
 
     -- A message that is handed out stands in the output.
     pub payload-stands : (message source out : List ℕ) → Bytes message → (h : Header) → readOf message ≡ Read h → (x : Message)
-        → handed i (afterwards cs) (arrival message source out) ≡ one x
-        → received (afterwards cs) message source out .out ≡ put out 0 (opened h (k .keys) message)
-    payload-stands message source out b h read x gave =
-        let l = arrives sane (standing cs s) message source out b in
-        l .writes x (sym (l .does .gives) ∙ gave) h read
+        → handed i (run t cs) (arrival message source out) ≡ one x
+        → called (run t cs) (arrival message source out) .out ≡ put out 0 (opened h (b .keys) message)
+    payload-stands message source out bytes h read x gave =
+        let m = arrives (stands cs goes) message source out bytes in
+        m .writes x (sym (m .does .gives) ∙ gave) h read
 
     -- Reply 7 is never given for it.
     pub never-damaged : (message source out : List ℕ) (h : Header) → readOf message ≡ Read h
-        → leadsTo (afterwards cs) (h .flag) (keyIdBytes h message) source ≡ At i → received (afterwards cs) message source out .answer .reply ≡ 7 → ⊥
+        → leadsTo (run t cs) (h .flag) (keyIdBytes h message) source ≡ At i → called (run t cs) (arrival message source out) .answer .reply ≡ 7 → ⊥
     unfolding received
     never-damaged message source out h read leads =
-        either NotSeven (ltb (length out) outputRoom) (kept (afterwards cs) out 1) (parsed (readOf message) (afterwards cs) message source out) (λ _. record { other = λ z. omega arith })
-        (λ _. rw (read, leads) (never-seven (afterwards cs) i h message out (history cs s .not-damaged))) .other
+        either NotSeven (ltb (length out) outputRoom) (kept (run t cs) out 1) (parsed (readOf message) (run t cs) message source out) (λ _. record { other = λ z. omega arith })
+        (λ _. rw (read, leads) (never-seven (run t cs) i h message out (history cs goes .unharmed))) .other
+
+    -- A call that is counted adds its message to the totals.
+    pub counted-moves : (c : Call) → GoesOn i (run t cs) (c ∷ []) → (x : Message) → told b (toldBy b cs) c ≡ new x
+        → let e = entryOf (slotOf (run t cs) i) in let f = entryOf (slotOf (after (run t cs) c) i) in
+        (f .accepted ≡ e .accepted + 1) × (f .bytes ≡ e .bytes + x .payload)
+    counted-moves c further x is =
+        let e = stands cs goes .agrees in
+        let f = subst (λ (w : Told). Stands b i (after (run t cs) c) (w ∷ toldBy b cs)) is (step (stands cs goes) c (further .0) (further .1) .stands) .agrees in
+        (omega (arith, e .number, f .number), omega (arith, e .sum, f .sum))
 
     -- A call that is not counted leaves every byte of the slot.
-    pub uncounted-stays : (c : Call) → OfBytes c → Spares i c → counts k (counted k cs) c ≡ nothing → slotOf (after (afterwards cs) c) i ≡ slotOf (afterwards cs) i
-    uncounted-stays c b c-spares e = step sane (standing cs s) c b c-spares .untouched e
+    pub uncounted-stays : (c : Call) → GoesOn i (run t cs) (c ∷ []) → countedOf (told b (toldBy b cs) c) ≡ nothing → slotOf (after (run t cs) c) i ≡ slotOf (run t cs) i
+    uncounted-stays c further e = step (stands cs goes) c (further .0) (further .1) .untouched e
 
-    -- So does a message below the floor, or one whose number was counted before,
-    pub stale-stays : (c : Call) → OfBytes c → Spares i c → (x : Message) → brought k c ≡ one x → isNew (k .frame) (numbers (counted k cs)) (x .number) ≡ false
-        → slotOf (after (afterwards cs) c) i ≡ slotOf (afterwards cs) i
-    stale-stays c b c-spares x is old = uncounted-stays c b c-spares (ap (provided (isNew (k .frame) (numbers (counted k cs)))) is ∙ rw old)
+    -- So does a message below the floor, or one whose number was counted or used before, genuine or not,
+    pub stale-stays : (message source out : List ℕ) → Bytes message → (h : Header) → readOf message ≡ Read h
+        → (isBelow b (toldBy b cs) (h .seqnum) || isUsed b (toldBy b cs) (h .seqnum)) ≡ true
+        → slotOf (after (run t cs) (arrival message source out)) i ≡ slotOf (run t cs) i
+    stale-stays message source out bytes h read old =
+        uncounted-stays (arrival message source out) (bytes, refl, tt)
+        (rw read (by (ltb (length out) outputRoom) (isOf (b .keys) h message source && eqb (b .keys .suite) (numberOf (h .suite))) (isBelow b (toldBy b cs) (h .seqnum))
+        (isUsed b (toldBy b cs) (h .seqnum)) (right h (b .keys) message) (record { number = h .seqnum; payload = payloadLength h message }) old))
+      where
+        by : (short mine low met icv : Bool) (x : Message) → (low || met) ≡ true → countedOf (cond short apart (cond mine (tested low met icv x) apart)) ≡ nothing
+        by true mine low met icv x e = refl
+        by false false low met icv x e = refl
+        by false true true met icv x e = refl
+        by false true false true icv x e = refl
+        by false true false false icv x e = absurd (true≢false (sym e))
 
     -- and a message that leads elsewhere.
     pub elsewhere-stays : (message source out : List ℕ) → Bytes message
-        → ((h : Header) → readOf message ≡ Read h → leadsTo (afterwards cs) (h .flag) (keyIdBytes h message) source ≡ At i → ⊥)
-        → slotOf (after (afterwards cs) (arrival message source out)) i ≡ slotOf (afterwards cs) i
-    elsewhere-stays message source out b away =
-        uncounted-stays (arrival message source out) b tt (by (ltb (length out) outputRoom) (readOf message) refl)
+        → ((h : Header) → readOf message ≡ Read h → leadsTo (run t cs) (h .flag) (keyIdBytes h message) source ≡ At i → ⊥)
+        → slotOf (after (run t cs) (arrival message source out)) i ≡ slotOf (run t cs) i
+    elsewhere-stays message source out bytes away =
+        uncounted-stays (arrival message source out) (bytes, refl, tt) (by (ltb (length out) outputRoom) (readOf message) refl)
       where
-        by : (short : Bool) (p : Parsed) → readOf message ≡ p
-            → provided (isNew (k .frame) (numbers (counted k cs))) (cond short nothing (genuine (k .keys) p message source)) ≡ nothing
+        by : (short : Bool) (p : Parsed) → readOf message ≡ p → countedOf (cond short apart (toldOf b (toldBy b cs) p message source)) ≡ nothing
         by true p e = refl
-        by false (Read h) e = rw (not-eq-not {a = isOf (k .keys) h message source} {b = false} .0 (λ yes. away h e (of-leads h message source yes)))
+        by false (Read h) e = rw (not-eq-not {a = isOf (b .keys) h message source} {b = false} .0 (λ yes. away h e (of-leads h message source yes)))
         by false BadLength e = refl
         by false BadVersion e = refl
         by false BadSuite e = refl
         by false TooShort e = refl
 
+-- The totals depend on the beginning and the calls after it alone: in any other table, at any other slot, they are the same.
+pub same-totals : {b : Beginning} {i j : ℕ} {t u : List ℕ} → Begins b i t → Begins b j u → (cs : List Call) → GoesOn i t cs → GoesOn j u cs
+    → let e = entryOf (slotOf (run t cs) i) in let f = entryOf (slotOf (run u cs) j) in
+    (e .accepted ≡ f .accepted) × (e .bytes ≡ f .bytes)
+same-totals p q cs on-p on-q =
+    let a = history p cs on-p in
+    let c = history q cs on-q in
+    (a .accepted ∙ sym (c .accepted), a .bytes ∙ sym (c .bytes))
+
+-- ---- calls that were made
+
+-- Of calls of which each met its function's contract: the slot of the last table accounts for them, and what their answers handed out is what
+-- was counted.
+pub history-traced : {b : Beginning} {i : ℕ} {t : List ℕ} → Begins b i t → (cs : List Call) (rs : List Received) → Trace t cs rs → Unended i cs rs
+    → Accounts b i (lastOf t rs) (toldBy b cs) × (handedBy i [] cs rs ≡ counted b cs)
+history-traced {b} {i} {t} begins cs rs trace unended =
+    let same = trace-results t cs rs trace in
+    let goes = subst (Unended i cs) same unended in
+    (rw (trace-run t cs rs trace) (history begins cs goes), ap (handedBy i [] cs) same ∙ all-handed begins cs goes)
+
+-- ---- an install answered 0 at slot i
+
+module _ (t : List ℕ) (long : length t ≡ tableLength) (k : KeyData) (f : Frame) (bytes : Bytes (k .keyId)) (i : ℕ) (done : installed t k f .answer ≡ doneAt i)
+    (cs : List Call) (goes : GoesOn i (after t (install k f)) cs) where
+  pub history-installed : Accounts (fresh k f) i (run t (install k f ∷ cs)) (toldBy (fresh k f) cs)
+  history-installed = history (install-begins t long k f bytes i done) cs goes
+
+  -- "the entry's two totals are how many different numbers were counted and the sum of their payload lengths"
+  pub totals-installed :
+      let e = entryOf (slotOf (run t (install k f ∷ cs)) i) in
+      let past = toldBy (fresh k f) cs in
+      (e .accepted ≡ length (different (numbers past))) × (e .bytes ≡ total (messages past)) × (e .window .highest ≡ highestOf (numbers past))
+  totals-installed =
+      let a = history-installed in
+      (omega (arith, a .accepted), omega (arith, a .bytes), omega (arith, a .highest))
+
 -- The same for an install anywhere in a sequence of calls on a table: whatever calls came before it, a removal of the same slot among them.
 pub history-within : (t : List ℕ) → length t ≡ tableLength → (before : List Call) → AllOfBytes before
-    → (k : Framed) → Bytes (k .keys .keyId) → (i : ℕ) → entered (run t before) k .answer ≡ doneAt i
-    → (cs : List Call) → SpareAll i cs → Accounts k i (run t (before ++ install k ∷ cs)) (counted k cs)
-history-within t long before all k b i done cs s =
-    rw (run-append t before (install k ∷ cs)) (history (run t before) (run-long t long before all) k b i done cs s)
-
--- The totals depend on the install and the calls after it alone: in any other table, at any other slot, they are the same.
-pub same-totals : (t u : List ℕ) → length t ≡ tableLength → length u ≡ tableLength → (k : Framed) → Bytes (k .keys .keyId) → (i j : ℕ) → entered t k .answer ≡ doneAt i → entered u k .answer ≡ doneAt j
-    → (cs : List Call) → SpareAll i cs → SpareAll j cs
-    → let e = entryOf (slotOf (run (after t (install k)) cs) i) in let f = entryOf (slotOf (run (after u (install k)) cs) j) in
-    (e .accepted ≡ f .accepted) × (e .bytes ≡ f .bytes)
-same-totals t u lt lu k b i j dt du cs si sj =
-    let p = history t lt k b i dt cs si in
-    let q = history u lu k b j du cs sj in
-    (p .accepted ∙ sym (q .accepted), p .bytes ∙ sym (q .bytes))
+    → (k : KeyData) (f : Frame) → Bytes (k .keyId) → (i : ℕ) → installed (run t before) k f .answer ≡ doneAt i
+    → (cs : List Call) → GoesOn i (after (run t before) (install k f)) cs
+    → Accounts (fresh k f) i (run t (before ++ install k f ∷ cs)) (toldBy (fresh k f) cs)
+history-within t long before all k f bytes i done cs goes =
+    rw (run-append t before (install k f ∷ cs)) (history-installed (run t before) (run-long t long before all) k f bytes i done cs goes)

@@ -7,11 +7,11 @@ use lib.ListN.{length}
 use Rattle.slots.specs.Table.{tableLength}
 use Rattle.entries.proofs.Outcomes.{install-length, remove-length}
 use Rattle.gateway.proofs.Cascade.{received-length}
-use Rattle.promises.specs.History.{Call, arrival, install, remove, after, run, OfBytes, AllOfBytes}
+use Rattle.promises.specs.Calls.{Call, arrival, install, remove, after, run, OfBytes, AllOfBytes}
 
 after-long : (t : List ℕ) → length t ≡ tableLength → (c : Call) → OfBytes c → length (after t c) ≡ tableLength
 after-long t long (arrival m source out) b = received-length t long m source out
-after-long t long (install k) b = install-length t long (k .keys) (k .frame) b
+after-long t long (install k f) b = install-length t long k f b
 after-long t long (remove i) b = remove-length t long i
 
 pub run-long : (t : List ℕ) → length t ≡ tableLength → (cs : List Call) → AllOfBytes cs → length (run t cs) ≡ tableLength

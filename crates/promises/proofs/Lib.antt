@@ -1,5 +1,7 @@
+pub mod Beginnings
 pub mod Counting
 pub mod Determined
+pub mod Genuine
 pub mod Held
 pub mod History
 pub mod Lengths
@@ -8,3 +10,4 @@ pub mod Replies
 pub mod RoundTrip
 pub mod Runs
 pub mod Steps
+pub mod Traces

@@ -1,9 +1,10 @@
--- Each reply is given exactly in its case: the reply is the first that fits.
+-- Each reply is given exactly in its case: the reply is the first that fits, so its own test holds and none before it does.
 -- Assumes nothing.
 use mathlib.Core.Path.{_≡_, refl, sym, ap, _∙_}
-use mathlib.Core.Bool.{Bool, true, false, cond, not, _||_, _&&_}
-use mathlib.Core.List.{List}
+use mathlib.Core.Bool.{Bool, true, false, cond, not, _||_, _&&_, and-false}
+use mathlib.Core.List.{List, [], _∷_}
 use Prim.Native.Nat.{ℕ, _+_, _-_, _^_}
+use borrow.Author.Tests.{eqb-true, ne-eqb, not-true}
 use lib.Dec.{eqb, ltb}
 use lib.ListN.{length}
 use Rattle.window.specs.Window.{floorOf, marked, judge, soundFrame}
@@ -13,8 +14,9 @@ use Rattle.answers.specs.Answers.{refused, outputRoom}
 use Rattle.format.specs.KeyId.{lengthOf}
 use Rattle.format.specs.KeyData.{known, soundOf, KeyData}
 use Rattle.format.specs.Suite.{suiteOf, icvLengthOf, numberOf}
-use Rattle.format.specs.Header.{flagIn, versionIn, csIn, keyIdIn, seqNumIn, readOf, readAs, leastMessage, greatestMessage, fixedBytes}
+use Rattle.format.specs.Header.{payloadLength, flagIn, versionIn, csIn, keyIdIn, seqNumIn, readOf, readAs, leastMessage, greatestMessage, fixedBytes}
 use Rattle.message.specs.Sealing.{right}
+use Rattle.message.specs.declared.sealing.Opened.the-variants.{Payload, Wrong}
 use Rattle.format.specs.declared.header.Header.{Header}
 use Rattle.format.specs.declared.header.Parsed.the-variants.{Read, BadLength, BadVersion, TooShort}
 use Rattle.format.specs.declared.suite.Numbered.{Numbered}
@@ -22,19 +24,19 @@ use Rattle.format.specs.declared.suite.Numbered.the-variants.{Known, Unknown}
 use Rattle.listing.specs.Listing.{Listed, listed, listingOf}
 use Rattle.entries.specs.Fresh.{freshSlot}
 use Rattle.entries.specs.Install.{Left, installed, removed, unlessTwin, placed}
-use Rattle.gateway.specs.Receive.{Received, received, parsed, led, arrived, judged, checked, handedOut, kept}
+use Rattle.gateway.specs.Receive.{Received, received, parsed, led, arrived, judged, checked, unsealed, handedOut, kept}
 use Rattle.lookup.specs.Lookup.{leadsTo, firstFree}
 use Rattle.slots.specs.Record.{undamaged}
 use Rattle.slots.specs.Table.{slotOf, occupied, csOf, windowOf, slotCount, keyDataOf}
 use Rattle.lookup.specs.declared.Found.{Found}
 use Rattle.lookup.specs.declared.Found.the-variants.{At, Nothing}
-use Rattle.numbers.proofs.Tests.{and-left}
+use Rattle.numbers.proofs.Tests.{and-left, and-right, neither-left, neither-right}
 use Rattle.sender.proofs.Records.{record-facts}
 use Rattle.sender.specs.Protect.{keyDataIn, payloadLimit, soundRecord, Outcome, refusal, sent, numbered, outcomeOf}
 use Rattle.sender.specs.declared.Sender.{Sender}
 use Rattle.format.proofs.Soundness.{sound-facts}
 use Rattle.format.proofs.Suites.{suite-number}
-use Rattle.promises.specs.Replies.{firstOf, isNothing, icvIn, ledTo, slotIn, rightIn, receiveReplies, installReplies, removeReplies, listingReplies, protectReplies}
+use Rattle.promises.specs.Replies.{Reply, firstOf, testOf, earlier, noneFits, Exactly, isNumbered, distinct, isNothing, icvIn, ledTo, slotIn, rightIn, receiveReplies, installReplies, removeReplies, listingReplies, protectReplies}
 
 -- a choice between two, seen through a function or by the opposite test
 pushed : {A B : Type 0} (f : A → B) (b : Bool) (x y : A) → f (cond b x y) ≡ cond b (f x) (f y)
@@ -44,6 +46,49 @@ pushed f false x y = refl
 flipped : {A : Type 0} (b : Bool) (x y : A) → cond (not b) x y ≡ cond b y x
 flipped true x y = refl
 flipped false x y = refl
+
+-- ---- the first that fits
+
+-- a number that no reply has is not given
+unnumbered : (n : ℕ) → (n ≡ 0 → ⊥) → (rs : List Reply) → isNumbered n rs ≡ false → eqb (firstOf rs) n ≡ false
+unnumbered n some [] e = ne-eqb 0 n (λ z. some (sym z))
+unnumbered n some (r ∷ rs) e =
+    by (r .fits) (neither-left (eqb (r .number) n) (isNumbered n rs) e) (unnumbered n some rs (neither-right (eqb (r .number) n) (isNumbered n rs) e))
+  where
+    by : (b : Bool) → eqb (r .number) n ≡ false → eqb (firstOf rs) n ≡ false → eqb (cond b (r .number) (firstOf rs)) n ≡ false
+    by true p q = p
+    by false p q = q
+
+first-each : (rs : List Reply) → distinct rs ≡ true → (n : ℕ) → (n ≡ 0 → ⊥) → eqb (firstOf rs) n ≡ (testOf n rs && noneFits (earlier n rs))
+first-each [] d n some = ne-eqb 0 n (λ z. some (sym z))
+first-each (r ∷ rs) d n some = by (eqb (r .number) n) refl (r .fits) (first-each rs (search (and-right)) n some)
+  where
+    others : isNumbered (r .number) rs ≡ false
+    others = not-true (isNumbered (r .number) rs) (search (and-left, and-right))
+
+    by : (mine : Bool) → eqb (r .number) n ≡ mine → (b : Bool) → eqb (firstOf rs) n ≡ (testOf n rs && noneFits (earlier n rs))
+        → eqb (cond b (r .number) (firstOf rs)) n ≡ (cond mine b (testOf n rs) && noneFits (cond mine [] (record { number = r .number; fits = b } ∷ earlier n rs)))
+    by true p true e = p
+    by true p false e = unnumbered n some rs (rw (eqb-true (r .number) n p) at others)
+    by false p true e = p ∙ sym (and-false (testOf n rs))
+    by false p false e = e
+
+first-done : (rs : List Reply) → distinct rs ≡ true → eqb (firstOf rs) 0 ≡ noneFits rs
+first-done [] d = refl
+first-done (r ∷ rs) d = by (r .fits) (first-done rs (search (and-right)))
+  where
+    some : eqb (r .number) 0 ≡ false
+    some = not-true (eqb (r .number) 0) (search (and-left))
+
+    by : (b : Bool) → eqb (firstOf rs) 0 ≡ noneFits rs → eqb (cond b (r .number) (firstOf rs)) 0 ≡ (not b && noneFits rs)
+    by true e = some
+    by false e = e
+
+exactly : {given : ℕ} (rs : List Reply) → given ≡ firstOf rs → distinct rs ≡ true → Exactly given rs
+exactly rs e d = record {
+  each = λ n some. ap (λ (x : ℕ). eqb x n) e ∙ first-each rs d n some;
+  done = ap (λ (x : ℕ). eqb x 0) e ∙ first-done rs d;
+}
 
 -- ---- install and remove
 
@@ -76,9 +121,11 @@ install-reply t k f =
 module _ (t : List ℕ) (i : ℕ) (h : Header) (m out : List ℕ) where
   icv-reply : checked t i h m out .answer .reply ≡ cond (not (right h (keyDataOf (slotOf t i)) m)) 11 0
   unfolding checked handedOut
-  icv-reply =
-      let r = right h (keyDataOf (slotOf t i)) m in
-      pushed (λ (l : Received). l .answer .reply) r _ _ ∙ sym (flipped r 11 0)
+  icv-reply = by (right h (keyDataOf (slotOf t i)) m)
+    where
+      by : (icv : Bool) → unsealed (cond icv (Payload (payloadLength h m)) Wrong) t i h m out .answer .reply ≡ cond (not icv) 11 0
+      by true = refl
+      by false = refl
 
   by-tests : (u c b k : Bool)
       → cond u (cond c (judged (judge b k) t i h m out) (kept t out 8)) (kept t out 7) .answer .reply
@@ -180,3 +227,25 @@ module _ (s : Sender) (payload out : List ℕ) where
   protect-reply =
       pushed (λ (o : Outcome). o .answer .reply) (ltb (length out) outputRoom) _ _
       ∙ ap (cond (ltb (length out) outputRoom) 1) (by-suite (suiteOf (s .keys .suite)) refl (soundRecord (s .keys) && ltb (s .current) (2 ^ 48)) refl)
+
+-- ---- each exactly in its case, and in the listed order
+
+pub receive-exactly : (t m source out : List ℕ) → Exactly (received t m source out .answer .reply) (receiveReplies t m source out)
+unfolding receiveReplies
+receive-exactly t m source out = exactly (receiveReplies t m source out) (receive-reply t m source out) refl
+
+pub install-exactly : (t : List ℕ) (k : KeyData) (f : Frame) → Exactly (installed t k f .answer .reply) (installReplies t k f)
+unfolding installReplies
+install-exactly t k f = exactly (installReplies t k f) (install-reply t k f) refl
+
+pub remove-exactly : (t : List ℕ) (i : ℕ) → Exactly (removed t i .answer .reply) (removeReplies t i)
+unfolding removeReplies
+remove-exactly t i = exactly (removeReplies t i) (remove-reply t i) refl
+
+pub listing-exactly : (t : List ℕ) (i : ℕ) (out : List ℕ) → Exactly (listed t i out .answer .reply) (listingReplies t i out)
+unfolding listingReplies
+listing-exactly t i out = exactly (listingReplies t i out) (listing-reply t i out) refl
+
+pub protect-exactly : (s : Sender) (payload out : List ℕ) → Exactly (outcomeOf s payload out .answer .reply) (protectReplies s payload out)
+unfolding protectReplies
+protect-exactly s payload out = exactly (protectReplies s payload out) (protect-reply s payload out) refl

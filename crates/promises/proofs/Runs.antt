@@ -1,109 +1,93 @@
--- An entry from its install on: it stands in its slot, and after any calls that spare it it agrees with what was counted.
+-- An entry from where its history begins: after any calls that do not end it, it agrees with what was counted.
 -- Assumes nothing.
-use mathlib.Core.Path.{_≡_, refl, sym, ap, subst, _∙_}
-use mathlib.Core.Bool.{Bool, true, false, cond, not, _&&_, or-true}
+use mathlib.Core.Path.{_≡_, refl, sym, ap, _∙_}
+use mathlib.Core.Bool.{false}
 use mathlib.Core.List.{List, [], _∷_}
 use mathlib.Core.Logic.{_⊎_, inl, inr}
 use Prim.Native.Nat.{ℕ}
 use native.Mathlib.Omega.{arith}
-use lib.Dec.{eqb, ltb}
+use borrow.Author.Tests.{ne-eqb}
 use lib.ListN.{length, length-map}
-use Rattle.octets.specs.Octets.{Bytes}
-use Rattle.window.specs.Window.{floorAt}
-use Rattle.window.specs.declared.Frame.{Frame}
-use Rattle.window.proofs.Undamaged.{frame-most}
-use Rattle.window.specs.Entry.{Entry}
-use Rattle.answers.specs.declared.Answer.{Answer}
-use Rattle.format.proofs.Soundness.{sound-facts}
-use Rattle.slots.specs.Table.{entryOf, tableLength}
-use Rattle.entries.specs.Fresh.{freshSlot}
-use Rattle.entries.specs.Install.{doneAt}
-use Rattle.lookup.proofs.Firsts.{leads-nowhere, free-small}
-use Rattle.entries.proofs.Fresh.{length-fresh, fresh-parts, fresh-entry, parts-undamaged}
-use Rattle.entries.proofs.Outcomes.{Refuses, Enters, install-outcome}
-use Rattle.slots.proofs.Replacing.{length-replaced, slot-own, slot-other}
-use Rattle.promises.specs.History.{Framed, Call, arrival, install, remove, entered, after, run, Message, Handed, nothing, one, handed, handedBy, numbers, highestOf, isIn, isNew, provided, counts, noted, countedFrom, OfBytes, SpareAll, Accounts}
-use Rattle.promises.proofs.Counting.{Agrees, fresh-agrees}
-use Rattle.promises.proofs.Held.{Sane}
-use Rattle.promises.proofs.Steps.{Stands, step}
+use Rattle.numbers.proofs.Tests.{and-left, and-right}
+use Rattle.window.specs.Entry.{undamagedEntry}
+use Rattle.window.proofs.Entries.{entry-facts}
+use Rattle.format.specs.KeyData.{soundOf}
+use Rattle.slots.specs.Table.{slotOf, entryOf, keyDataOf}
+use Rattle.slots.specs.Record.{undamaged}
+use Rattle.entries.specs.Install.{removed}
+use Rattle.entries.proofs.Outcomes.{Refuses, Frees, remove-outcome}
+use Rattle.promises.specs.Calls.{Call, arrival, install, remove, OfBytes, called, after, run, results, isDone}
+use Rattle.promises.specs.Counted.{Beginning, Message, Told, messages, told, toldFrom}
+use Rattle.promises.specs.History.{Begins, Handed, handed, noted, handedBy, ends, GoesOn, Spares, SpareAll, countedOf, Accounts}
+use Rattle.promises.proofs.Counting.{grown}
+use Rattle.promises.proofs.Steps.{Stands, arrives, replied, step, unharmed}
 
-module _ (t : List ℕ) (long : length t ≡ tableLength) (k : Framed) (b : Bytes (k .keys .keyId)) where
-  abbrev Begins : ℕ → Type 0
-  Begins i = Sane k i × Stands k i (entered t k .table) []
+pub begun : {b : Beginning} {i : ℕ} {t : List ℕ} → Begins b i t → Stands b i t []
+unfolding undamaged
+begun {b} {i} {t} g =
+    let s = slotOf t i in
+    record {
+      held = record {
+        long = g .long;
+        sound = sym (ap soundOf (g .keys)) ∙ and-left (soundOf (keyDataOf s)) (undamagedEntry (entryOf s)) (g .unharmed);
+        keys = g .keys;
+        leads = g .leads;
+      };
+      agrees = record {
+        framed = g .frame;
+        high = omega (arith, g .highest);
+        marks = g .used;
+        once = refl;
+        number = omega (arith, g .accepted);
+        sum = omega (arith, g .bytes);
+        unharmed = entry-facts (entryOf s) (and-right (soundOf (keyDataOf s)) (undamagedEntry (entryOf s)) (g .unharmed));
+      };
+    }
 
-  enters : (j : ℕ) → Enters t (k .keys) (k .frame) j → Begins j
-  enters j n =
-      let small = free-small t j (n .free) in
-      let sound = sound-facts (k .keys) (n .fair .sound) in
-      let fresh = freshSlot (k .keys) (k .frame) in
-      let full = length-fresh sound (b 0) (k .frame) in
-      let own = slot-own t j fresh long small full in
-      let framed = n .fair .framed in
-      let entry = fresh-entry sound (b 0) (k .frame) (omega (arith, frame-most (k .frame) framed)) in (
-        record { small = small; sound = sound; first = b 0; framed = framed },
-        rw (n .is)
-            (record {
-              held = record {
-                long = length-replaced t j fresh long small full;
-                parts = rw own (fresh-parts sound (b 0) (k .frame));
-                alone =
-                    λ x l other.
-                    rw (slot-other t j fresh long small full x l other) (leads-nowhere t x (k .keys .flag) (k .keys .keyId) (k .keys .source) (n .alone) l);
-              };
-              agrees =
-                  subst (λ (x : Entry). Agrees (k .frame) x []) (sym (ap entryOf own ∙ entry)) (fresh-agrees (k .frame) framed);
-            }),
-      )
+module _ {b : Beginning} {i : ℕ} where
+  pub stands-on : {t : List ℕ} {past : List Told} → Stands b i t past → (cs : List Call) → GoesOn i t cs → Stands b i (run t cs) (toldFrom b past cs)
+  stands-on now [] goes = now
+  stands-on now (c ∷ cs) goes = stands-on (step now c (goes .0) (goes .1) .stands) cs (goes .2)
 
-  pub begins : (i : ℕ) → entered t k .answer ≡ doneAt i → Begins i
-  begins i done = by (install-outcome t (k .keys) (k .frame))
-    where
-      by : Refuses t (entered t k) ⊎ ((j : ℕ) × Enters t (k .keys) (k .frame) j) → Begins i
-      by (inl r) = absurd (omega (arith, r .some, ap (λ (a : Answer). a .reply) (rw (r .is) at done)))
-      by (inr (j, n)) = subst Begins (ap (λ (a : Answer). a .slot) (rw (n .is) at done)) (enters j n)
+  pub hands-on : {t : List ℕ} {past : List Told} → Stands b i t past → (cs : List Call) → GoesOn i t cs
+      → handedBy i (messages past) cs (results t cs) ≡ messages (toldFrom b past cs)
+  hands-on now [] goes = refl
+  hands-on {t} {past} now (c ∷ cs) goes =
+      let d = step now c (goes .0) (goes .1) in
+      ap (λ (x : Handed). handedBy i (noted (messages past) x) cs (results (after t c) cs)) (d .gives)
+      ∙ ap (λ (xs : List Message). handedBy i xs cs (results (after t c) cs)) (grown (told b past c) past)
+      ∙ hands-on (d .stands) cs (goes .2)
 
-module _ {k : Framed} {i : ℕ} (v : Sane k i) where
-  pub stands-on : {t : List ℕ} {past : List Message} → Stands k i t past → (cs : List Call) → SpareAll i cs → Stands k i (run t cs) (countedFrom k past cs)
-  stands-on now [] s = now
-  stands-on now (c ∷ cs) s = stands-on (step v now c (s .0) (s .1) .stands) cs (s .2)
-
-  pub hands-on : {t : List ℕ} {past : List Message} → Stands k i t past → (cs : List Call) → SpareAll i cs → handedBy i t past cs ≡ countedFrom k past cs
-  hands-on now [] s = refl
-  hands-on {t} {past} now (c ∷ cs) s =
-      let d = step v now c (s .0) (s .1) in
-      ap (λ (x : Handed). handedBy i (after t c) (noted past x) cs) (d .gives) ∙ hands-on (d .stands) cs (s .2)
-
-  -- what was counted stays counted
-  pub stays-in : (n : ℕ) (past : List Message) → isIn n (numbers past) ≡ true → (cs : List Call) → isIn n (numbers (countedFrom k past cs)) ≡ true
-  stays-in n past p [] = p
-  stays-in n past p (c ∷ cs) = stays-in n (noted past (counts k past c)) (by (counts k past c)) cs
-    where
-      by : (x : Handed) → isIn n (numbers (noted past x)) ≡ true
-      by nothing = p
-      by (one x) = rw p (or-true (eqb n (x .number)))
-
-  pub accounts : {t : List ℕ} {past : List Message} → Stands k i t past → Accounts k i t past
+  pub accounts : {t : List ℕ} {past : List Told} → Stands b i t past → Accounts b i t past
   accounts {t} {past} now =
       let a = now .agrees in record {
         exactly = exactly;
-        accepted = a .number ∙ sym (ap length (a .once) ∙ length-map past (λ (x : Message). x .number));
+        replies = λ message source out bytes. replied now message source out bytes;
+        accepted = omega (arith, a .number, ap length (a .once), length-map (messages past) (λ (x : Message). x .number));
         bytes = a .sum;
         once = a .once;
         highest = a .high;
-        not-damaged = parts-undamaged (v .sound) (now .held .parts) (a .undamaged);
+        keys = now .held .keys;
+        frame = a .framed;
+        unharmed = unharmed now;
       }
     where
-      exactly : (c : Call) → OfBytes c → handed i t c ≡ counts k past c
-      exactly (arrival message source out) b = step v now (arrival message source out) b tt .gives
-      exactly (install other) b = refl
-      exactly (remove j) b = refl
+      exactly : (c : Call) → OfBytes c → handed i t c ≡ countedOf (told b past c)
+      exactly (arrival message source out) bytes = arrives now message source out bytes .does .gives
+      exactly (install k f) bytes = refl
+      exactly (remove j) bytes = refl
 
--- a counted message's number was not counted before
-pub counted-new : (frame : Frame) (ns : List ℕ) (z : Handed) (y : Message) → provided (isNew frame ns) z ≡ one y → isIn (y .number) ns ≡ false
-counted-new frame ns nothing y e = cc
-counted-new frame ns (one z) y e = by (ltb (z .number) (floorAt frame (highestOf ns))) (isIn (z .number) ns) refl e
+-- ---- calls that do not ask for the removal of the slot
+
+spares : (i : ℕ) (t : List ℕ) (c : Call) → Spares i c → ends i c (called t c .answer) ≡ false
+spares i t (arrival message source out) s = refl
+spares i t (install k f) s = refl
+spares i t (remove j) s = by (remove-outcome t j)
   where
-    by : (below used : Bool) → isIn (z .number) ns ≡ used → cond (not below && not used) (one z) nothing ≡ one y → isIn (y .number) ns ≡ false
-    by true used q e = cc
-    by false true q e = cc
-    by false false q e = let same : z ≡ y = cc in rw same at q
+    by : Refuses t (removed t j) ⊎ Frees t j → isDone i (removed t j .answer) ≡ false
+    by (inl r) = rw (r .is, ne-eqb (r .reply) 0 (λ z. omega (arith, r .some)))
+    by (inr f) = rw (f .is, ne-eqb j i s)
+
+pub spared : (i : ℕ) (t : List ℕ) (cs : List Call) → SpareAll i cs → GoesOn i t cs
+spared i t [] s = tt
+spared i t (c ∷ cs) s = (s .0, spares i t c (s .1), spared i (after t c) cs (s .2))

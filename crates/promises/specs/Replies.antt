@@ -1,4 +1,5 @@
 -- Each reply's own case (01, "Replies"), and the rule that joins them: the first that fits, in the listed order, is given; where none fits, 0.
+use mathlib.Core.Path.{_≡_}
 use mathlib.Core.Bool.{Bool, true, false, cond, not, _||_, _&&_}
 use mathlib.Core.List.{List, [], _∷_}
 use Prim.Native.Nat.{ℕ, _+_, _-_, _^_}
@@ -38,16 +39,47 @@ abbrev pub firstOf : List Reply → ℕ
 firstOf [] = 0
 firstOf (r ∷ rs) = cond (r .fits) (r .number) (firstOf rs)
 
+-- the test of reply n; the replies that stand before it; whether none of some fits, and whether none of those with some numbers does
+abbrev pub testOf : ℕ → List Reply → Bool
+testOf n [] = false
+testOf n (r ∷ rs) = cond (eqb (r .number) n) (r .fits) (testOf n rs)
+
+abbrev pub earlier : ℕ → List Reply → List Reply
+earlier n [] = []
+earlier n (r ∷ rs) = cond (eqb (r .number) n) [] (r ∷ earlier n rs)
+
+abbrev pub noneFits : List Reply → Bool
+noneFits [] = true
+noneFits (r ∷ rs) = not (r .fits) && noneFits rs
+
+abbrev pub noneOf : List ℕ → List Reply → Bool
+noneOf [] rs = true
+noneOf (n ∷ ns) rs = not (testOf n rs) && noneOf ns rs
+
+-- "Each is given exactly in its case": n if its own test holds and none before it does, and 0 if none holds
+pub record Exactly (given : ℕ) (rs : List Reply) : Type 0 where
+  pub each : (n : ℕ) → (n ≡ 0 → ⊥) → eqb given n ≡ (testOf n rs && noneFits (earlier n rs))
+  pub done : eqb given 0 ≡ noneFits rs
+
+-- the numbers in a list are different, and none is 0
+abbrev pub isNumbered : ℕ → List Reply → Bool
+isNumbered n [] = false
+isNumbered n (r ∷ rs) = eqb (r .number) n || isNumbered n rs
+
+abbrev pub distinct : List Reply → Bool
+distinct [] = true
+distinct (r ∷ rs) = not (eqb (r .number) 0) && not (isNumbered (r .number) rs) && distinct rs
+
 abbrev pub isNothing : Found → Bool
 isNothing (At i) = false
 isNothing Nothing = true
 
 -- ---- receive
 
--- the ICV's length, where the suite is one
+-- the ICV's length: the suite's, and 4 for a number that is none, whose reply is 4 before it can be 5
 abbrev pub icvIn : Numbered → ℕ
 icvIn (Known s) = icvLengthOf s
-icvIn Unknown = 0
+icvIn Unknown = 4
 
 -- where a message leads
 abbrev pub ledTo : List ℕ → List ℕ → List ℕ → Found
@@ -57,6 +89,11 @@ ledTo t m source = leadsTo t (flagIn m) (part 3 (lengthOf (keyIdIn m)) m) source
 abbrev pub slotIn : List ℕ → Found → List ℕ
 slotIn t (At i) = slotOf t i
 slotIn t Nothing = slotOf t 0
+
+-- whether that is slot i
+abbrev pub isAt : ℕ → Found → Bool
+isAt i (At j) = eqb j i
+isAt i Nothing = false
 
 -- whether the ICV is right, where the header is read
 abbrev pub rightIn : Parsed → List ℕ → List ℕ → Bool

@@ -1,0 +1,85 @@
+-- How a history begins: with an install that is answered 0, and with whatever stands undamaged in a slot to which it leads itself.
+-- Assumes nothing.
+use mathlib.Core.Path.{_≡_, refl, ap, subst, _∙_}
+use mathlib.Core.Bool.{true, false}
+use mathlib.Core.List.{List}
+use mathlib.Core.Logic.{_⊎_, inl, inr}
+use Prim.Native.Nat.{ℕ, _<_}
+use native.Mathlib.Omega.{arith}
+use borrow.Author.Tests.{le-ltb}
+use lib.ListN.{length}
+use Rattle.octets.specs.Octets.{Bytes}
+use Rattle.answers.specs.declared.Answer.{Answer}
+use Rattle.window.specs.Window.{floorOf, marked}
+use Rattle.window.specs.declared.Frame.{Frame}
+use Rattle.window.specs.Entry.{Entry}
+use Rattle.window.proofs.Undamaged.{frame-most, fresh-unmarked}
+use Rattle.format.specs.KeyData.{KeyData}
+use Rattle.format.proofs.Soundness.{sound-facts}
+use Rattle.slots.specs.Table.{slotOf, windowOf, entryOf, keyDataOf, replaced, slotCount, tableLength}
+use Rattle.slots.specs.Record.{undamaged}
+use Rattle.slots.proofs.Replacing.{length-replaced, slot-own, slot-other}
+use Rattle.lookup.specs.Lookup.{leadsTo}
+use Rattle.lookup.specs.declared.Found.the-variants.{At}
+use Rattle.lookup.proofs.Firsts.{lowest, leads-nowhere, free-small}
+use Rattle.entries.specs.Fresh.{freshSlot}
+use Rattle.entries.specs.Install.{doneAt, installed}
+use Rattle.entries.proofs.Fresh.{length-fresh, fresh-entry, fresh-keydata, fresh-matches, fresh-undamaged}
+use Rattle.entries.proofs.Installs.{Fair}
+use Rattle.entries.proofs.Outcomes.{Refuses, Enters, install-outcome}
+use Rattle.promises.specs.Calls.{install, after}
+use Rattle.promises.specs.Counted.{fresh, standing}
+use Rattle.promises.specs.History.{Begins}
+use Rattle.promises.proofs.Held.{isNamed}
+
+module _ (t : List ℕ) (long : length t ≡ tableLength) (k : KeyData) (f : Frame) (bytes : Bytes (k .keyId)) where
+  -- a fresh entry in a slot below which none matches its key data
+  pub fresh-begins : Fair k f → (i : ℕ) → i < slotCount → ((j : ℕ) → j < i → isNamed k (slotOf t j) ≡ false)
+      → Begins (fresh k f) i (replaced t i (freshSlot k f))
+  unfolding leadsTo
+  fresh-begins fair i small none =
+      let sound = sound-facts k (fair .sound) in
+      let slot = freshSlot k f in
+      let full = length-fresh sound (bytes 0) f in
+      let own = slot-own t i slot long small full in
+      let entry = ap entryOf own ∙ fresh-entry sound (bytes 0) f (omega (arith, frame-most f (fair .framed))) in
+      record {
+        long = length-replaced t i slot long small full;
+        keys = ap keyDataOf own ∙ fresh-keydata sound (bytes 0) f;
+        leads =
+            lowest (λ j. isNamed k (slotOf (replaced t i slot) j)) i small (rw own (fresh-matches sound (bytes 0) f))
+            (λ j l. rw (slot-other t i slot long small full j (omega arith) (λ e. omega arith)) (none j l));
+        unharmed = rw own (fresh-undamaged sound (bytes 0) f (fair .framed));
+        frame = ap (λ (e : Entry). e .window .frame) entry;
+        highest = ap (λ (e : Entry). e .window .highest) entry;
+        used = λ n l. ap (λ (e : Entry). marked (e .window) n) entry ∙ fresh-unmarked f n;
+        accepted = ap (λ (e : Entry). e .accepted) entry;
+        bytes = ap (λ (e : Entry). e .bytes) entry;
+      }
+
+  -- an install answered 0
+  pub install-begins : (i : ℕ) → installed t k f .answer ≡ doneAt i → Begins (fresh k f) i (after t (install k f))
+  install-begins i done = by (install-outcome t k f)
+    where
+      by : Refuses t (installed t k f) ⊎ ((j : ℕ) × Enters t k f j) → Begins (fresh k f) i (installed t k f .table)
+      by (inl r) = absurd (omega (arith, r .some, ap (λ (a : Answer). a .reply) (rw (r .is) at done)))
+      by (inr (j, n)) =
+          let small = free-small t j (n .free) in
+          subst (λ (x : ℕ). Begins (fresh k f) x (installed t k f .table)) (ap (λ (a : Answer). a .slot) (rw (n .is) at done))
+          (rw (n .is) (fresh-begins (n .fair) j small (λ x l. leads-nowhere t x (k .flag) (k .keyId) (k .source) (n .alone) (omega arith))))
+
+-- what stands undamaged in a slot to which its key data leads
+pub slot-begins : (t : List ℕ) → length t ≡ tableLength → (i : ℕ)
+    → let k = keyDataOf (slotOf t i) in leadsTo t (k .flag) (k .keyId) (k .source) ≡ At i
+    → undamaged (slotOf t i) ≡ true → Begins (standing k (entryOf (slotOf t i))) i t
+slot-begins t long i leads unharmed = record {
+  long = long;
+  keys = refl;
+  leads = leads;
+  unharmed = unharmed;
+  frame = refl;
+  highest = refl;
+  used = λ n l. rw (le-ltb n (floorOf (windowOf (slotOf t i))) l);
+  accepted = refl;
+  bytes = refl;
+}
