@@ -8,6 +8,7 @@ use native.Mathlib.Omega.{arith}
 use borrow.Author.Tests.{ltb-false}
 use lib.Dec.{eqb, ltb}
 use lib.ListN.{length, drop}
+use Rattle.numbers.proofs.Tests.{neither-right}
 use Rattle.octets.specs.Octets.{Bytes}
 use Rattle.octets.proofs.BigEndian.{bytes-drop, number-lt}
 use Rattle.format.specs.KeyId.{lengthOf}
@@ -33,10 +34,6 @@ refused x h some e = omega (arith, ap refusalOf e)
 not-first : (b : Bool) (x y : Parsed) (h : Header) → 0 < refusalOf x → cond b x y ≡ Read h → (b ≡ false) × (y ≡ Read h)
 not-first true x y h some e = absurd (refused x h some e)
 not-first false x y h some e = (refl, e)
-
-second-false : (p q : Bool) → (p || q) ≡ false → q ≡ false
-second-false true q e = cc
-second-false false q e = e
 
 module _ (m : List ℕ) (h : Header) where
   -- what of it the last test tells
@@ -64,7 +61,7 @@ read-room m {h} e =
     let r = not-first (ltb (length m) leastMessage || ltb greatestMessage (length m)) BadLength version h (omega arith) e in
     let told = of-version m h (eqb (versionIn m) 0) (r .1) in
     record {
-      short = ltb-false greatestMessage (length m) (second-false (ltb (length m) leastMessage) (ltb greatestMessage (length m)) (r .0));
+      short = ltb-false greatestMessage (length m) (neither-right (ltb (length m) leastMessage) (ltb greatestMessage (length m)) (r .0));
       enough = told .0;
       number = told .1;
     }

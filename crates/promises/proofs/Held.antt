@@ -15,11 +15,12 @@ use Rattle.octets.proofs.Same.{same-true}
 use Rattle.window.specs.Entry.{Entry}
 use Rattle.window.proofs.Entries.{UndamagedEntry, entry-test}
 use Rattle.format.specs.KeyData.{KeyData, soundOf}
-use Rattle.slots.specs.Table.{slotOf, windowOf, entryOf, keyDataOf, settled, replaced, slotLength, slotCount, tableLength}
+use Rattle.format.proofs.Soundness.{Sound, sound-test}
+use Rattle.slots.specs.Table.{slotOf, entryOf, keyDataOf, settled, replaced, slotLength, slotCount, tableLength}
 use Rattle.slots.specs.Record.{undamaged}
 use Rattle.slots.proofs.Damage.{undamaged-by-entry}
 use Rattle.slots.proofs.Replacing.{length-replaced, slot-own, slot-other}
-use Rattle.slots.proofs.Settled.{SameKeys, same-keydata, settled-keys, settled-entry, settledSlot, length-slot, as-replaced}
+use Rattle.slots.proofs.Settled.{SameKeys, same-keydata, settled-keys, settledSlot, length-slot, as-replaced}
 use Rattle.slots.proofs.Slots.{slot-length}
 use Rattle.lookup.specs.Lookup.{matches, leadsTo}
 use Rattle.lookup.specs.declared.Found.the-variants.{At}
@@ -33,7 +34,7 @@ isNamed k s = matches (k .flag) (k .keyId) (k .source) s
 -- sound key data stands in slot i, and what names it leads there
 pub record Held (k : KeyData) (i : ℕ) (t : List ℕ) : Type 0 where
   pub long : length t ≡ tableLength
-  pub sound : soundOf k ≡ true
+  pub sound : Sound k
   pub keys : keyDataOf (slotOf t i) ≡ k
   pub leads : leadsTo t (k .flag) (k .keyId) (k .source) ≡ At i
 
@@ -111,7 +112,7 @@ module _ {k : KeyData} {i : ℕ} {t : List ℕ} (held : Held k i t) where
   -- the slot is undamaged where its entry is
   pub held-undamaged : UndamagedEntry (entryOf (slotOf t i)) → undamaged (slotOf t i) ≡ true
   held-undamaged w =
-      sym (undamaged-by-entry (slotOf t i) (ap soundOf (held .keys) ∙ held .sound)) ∙ entry-test (entryOf (slotOf t i)) w
+      sym (undamaged-by-entry (slotOf t i) (ap soundOf (held .keys) ∙ sound-test k (held .sound))) ∙ entry-test (entryOf (slotOf t i)) w
 
   -- ---- writes
 
@@ -149,15 +150,6 @@ module _ {k : KeyData} {i : ℕ} {t : List ℕ} (held : Held k i t) where
 
     same-keys : SameKeys (slotOf t i) slot
     same-keys = settled-keys (slotOf t i) e (slot-length t i (held .long) held-small) (held-alike .keyid-short) (held-alike .source-short)
-
-    own : slotOf (settled t i e) i ≡ slot
-    own =
-        let long = held .long in
-        let small = held-small in
-        rw (as-replaced t i e long small) (slot-own t i slot long small (length-slot t i e long small))
-
-    pub entry-settled : UndamagedEntry e → windowOf (slotOf t i) .frame ≡ e .window .frame → entryOf (slotOf (settled t i e) i) ≡ e
-    entry-settled unharmed frame = ap entryOf own ∙ settled-entry (slotOf t i) e (slot-length t i (held .long) held-small) unharmed frame
 
     pub held-settled : Held k i (settled t i e)
     held-settled =

@@ -37,7 +37,8 @@ use Rattle.promises.proofs.Held.{names-facts, names-test, leads-here, l
 use Rattle.promises.proofs.Lengths.{run-long, run-append}
 use Rattle.promises.proofs.Runs.{begun, stands-on, hands-on, accounts}
 use Rattle.promises.proofs.Steps.{Stands, arrives, step}
-use Rattle.promises.proofs.Traces.{trace-results, trace-run}
+use Rattle.promises.proofs.Traces.{allowed-called, trace-results, trace-run}
+use Rattle.promises.proofs.Worthless.{one-account}
 
 -- a history that begins in slot i of a table
 module _ {b : Beginning} {i : ℕ} {t : List ℕ} (begins : Begins b i t) where
@@ -149,14 +150,11 @@ module _ {b : Beginning} {i : ℕ} {t : List ℕ} (begins : Begins b i t) where
         by false BadSuite e = refl
         by false TooShort e = refl
 
--- The totals depend on the beginning and the calls after it alone: in any other table, at any other slot, they are the same.
+-- Totals and highest number depend on the beginning and the calls after it alone: in any other table, at any other slot, they are the same.
 pub same-totals : {b : Beginning} {i j : ℕ} {t u : List ℕ} → Begins b i t → Begins b j u → (cs : List Call) → GoesOn i t cs → GoesOn j u cs
     → let e = entryOf (slotOf (run t cs) i) in let f = entryOf (slotOf (run u cs) j) in
-    (e .accepted ≡ f .accepted) × (e .bytes ≡ f .bytes)
-same-totals p q cs on-p on-q =
-    let a = history p cs on-p in
-    let c = history q cs on-q in
-    (a .accepted ∙ sym (c .accepted), a .bytes ∙ sym (c .bytes))
+    (e .accepted ≡ f .accepted) × (e .bytes ≡ f .bytes) × (e .window .highest ≡ f .window .highest)
+same-totals p q cs on-p on-q = one-account (history p cs on-p) (history q cs on-q)
 
 -- ---- calls that were made
 
@@ -169,21 +167,27 @@ history-traced {b} {i} {t} begins cs rs trace unended =
     let goes = subst (Unended i cs) same unended in
     (rw (trace-run t cs rs trace) (history begins cs goes), ap (handedBy i [] cs) same ∙ all-handed begins cs goes)
 
--- ---- an install answered 0 at slot i
+-- ---- from an install on
 
-module _ (t : List ℕ) (long : length t ≡ tableLength) (k : KeyData) (f : Frame) (bytes : Bytes (k .keyId)) (i : ℕ) (done : installed t k f .answer ≡ doneAt i)
-    (cs : List Call) (goes : GoesOn i (after t (install k f)) cs) where
-  pub history-installed : Accounts (fresh k f) i (run t (install k f ∷ cs)) (toldBy (fresh k f) cs)
-  history-installed = history (install-begins t long k f bytes i done) cs goes
+-- "the entry's two totals are how many different numbers were counted and the sum of their payload lengths"
+pub fresh-totals : {k : KeyData} {f : Frame} {i : ℕ} {t : List ℕ} {past : List Told} → Accounts (fresh k f) i t past
+    → let e = entryOf (slotOf t i) in
+    (e .accepted ≡ length (different (numbers past))) × (e .bytes ≡ total (messages past)) × (e .window .highest ≡ highestOf (numbers past))
+fresh-totals a = (omega (arith, a .accepted), omega (arith, a .bytes), omega (arith, a .highest))
 
-  -- "the entry's two totals are how many different numbers were counted and the sum of their payload lengths"
-  pub totals-installed :
-      let e = entryOf (slotOf (run t (install k f ∷ cs)) i) in
-      let past = toldBy (fresh k f) cs in
-      (e .accepted ≡ length (different (numbers past))) × (e .bytes ≡ total (messages past)) × (e .window .highest ≡ highestOf (numbers past))
-  totals-installed =
-      let a = history-installed in
-      (omega (arith, a .accepted), omega (arith, a .bytes), omega (arith, a .highest))
+module _ (t : List ℕ) (long : length t ≡ tableLength) (k : KeyData) (f : Frame) (bytes : Bytes (k .keyId)) (i : ℕ) where
+  -- after an install answered 0 at slot i
+  pub history-installed : installed t k f .answer ≡ doneAt i → (cs : List Call) → GoesOn i (after t (install k f)) cs
+      → Accounts (fresh k f) i (run t (install k f ∷ cs)) (toldBy (fresh k f) cs)
+  history-installed done cs goes = history (install-begins t long k f bytes i done) cs goes
+
+  -- and of calls that were made, the first of them such an install
+  pub installed-traced : (r : Received) (cs : List Call) (rs : List Received) → Trace t (install k f ∷ cs) (r ∷ rs) → r .answer ≡ doneAt i → Unended i cs rs
+      → Accounts (fresh k f) i (lastOf t (r ∷ rs)) (toldBy (fresh k f) cs) × (handedBy i [] cs rs ≡ counted (fresh k f) cs)
+  installed-traced r cs rs trace done unended =
+      let is = allowed-called t (install k f) r (trace .0) in
+      let begins = install-begins t long k f bytes i (sym (ap (λ (x : Received). x .answer) is) ∙ done) in
+      history-traced (subst (λ (x : Received). Begins (fresh k f) i (x .table)) (sym is) begins) cs rs (trace .1) unended
 
 -- The same for an install anywhere in a sequence of calls on a table: whatever calls came before it, a removal of the same slot among them.
 pub history-within : (t : List ℕ) → length t ≡ tableLength → (before : List Call) → AllOfBytes before

@@ -1,4 +1,5 @@
 pub mod Beginnings
+pub mod Cases
 pub mod Counting
 pub mod Determined
 pub mod Genuine
@@ -11,3 +12,4 @@ pub mod RoundTrip
 pub mod Runs
 pub mod Steps
 pub mod Traces
+pub mod Worthless

@@ -1,6 +1,6 @@
 -- An entry from where its history begins: after any calls that do not end it, it agrees with what was counted.
 -- Assumes nothing.
-use mathlib.Core.Path.{_≡_, refl, sym, ap, _∙_}
+use mathlib.Core.Path.{_≡_, refl, ap, subst, _∙_}
 use mathlib.Core.Bool.{false}
 use mathlib.Core.List.{List, [], _∷_}
 use mathlib.Core.Logic.{_⊎_, inl, inr}
@@ -8,12 +8,9 @@ use Prim.Native.Nat.{ℕ}
 use native.Mathlib.Omega.{arith}
 use borrow.Author.Tests.{ne-eqb}
 use lib.ListN.{length, length-map}
-use Rattle.numbers.proofs.Tests.{and-left, and-right}
-use Rattle.window.specs.Entry.{undamagedEntry}
-use Rattle.window.proofs.Entries.{entry-facts}
-use Rattle.format.specs.KeyData.{soundOf}
-use Rattle.slots.specs.Table.{slotOf, entryOf, keyDataOf}
-use Rattle.slots.specs.Record.{undamaged}
+use Rattle.format.proofs.Soundness.{Sound}
+use Rattle.slots.specs.Table.{slotOf}
+use Rattle.slots.proofs.Damage.{undamaged-sound, undamaged-entry}
 use Rattle.entries.specs.Install.{removed}
 use Rattle.entries.proofs.Outcomes.{Refuses, Frees, remove-outcome}
 use Rattle.promises.specs.Calls.{Call, arrival, install, remove, OfBytes, called, after, run, results, isDone}
@@ -23,13 +20,12 @@ use Rattle.promises.proofs.Counting.{grown}
 use Rattle.promises.proofs.Steps.{Stands, arrives, replied, step, unharmed}
 
 pub begun : {b : Beginning} {i : ℕ} {t : List ℕ} → Begins b i t → Stands b i t []
-unfolding undamaged
 begun {b} {i} {t} g =
     let s = slotOf t i in
     record {
       held = record {
         long = g .long;
-        sound = sym (ap soundOf (g .keys)) ∙ and-left (soundOf (keyDataOf s)) (undamagedEntry (entryOf s)) (g .unharmed);
+        sound = subst Sound (g .keys) (undamaged-sound s (g .unharmed));
         keys = g .keys;
         leads = g .leads;
       };
@@ -40,7 +36,7 @@ begun {b} {i} {t} g =
         once = refl;
         number = omega (arith, g .accepted);
         sum = omega (arith, g .bytes);
-        unharmed = entry-facts (entryOf s) (and-right (soundOf (keyDataOf s)) (undamagedEntry (entryOf s)) (g .unharmed));
+        unharmed = undamaged-entry s (g .unharmed);
       };
     }
 

@@ -28,7 +28,7 @@ use Rattle.format.proofs.Room.{read-room, payload-most, number-small}
 use Rattle.message.specs.Sealing.{right, opened}
 use Rattle.slots.specs.Table.{slotOf, csOf, entryOf, settled, replaced, emptySlot, slotLength, slotCount, occupiedAt, keyDataOf}
 use Rattle.slots.specs.Record.{undamaged}
-use Rattle.slots.proofs.Settled.{settled-keys, settledSlot, length-slot, as-replaced}
+use Rattle.slots.proofs.Settled.{settled-keys, settledSlot, length-slot, as-replaced, entry-settled}
 use Rattle.slots.proofs.Slots.{slot-length}
 use Rattle.lookup.specs.Lookup.{leadsTo}
 use Rattle.lookup.specs.declared.Found.{Found}
@@ -46,7 +46,7 @@ use Rattle.promises.specs.Calls.{Call, arrival, install, remove, OfBytes
 use Rattle.promises.specs.Counted.{Beginning, Message, isBelow, isUsed, isOf, Told, apart, below, used, forged, new, tested, toldOf, told}
 use Rattle.promises.specs.History.{replyTo, Handed, nothing, one, countedOf, answered, handed, ends}
 use Rattle.promises.proofs.Counting.{Agrees, verdict-agrees, still-agrees, taken-agrees}
-use Rattle.promises.proofs.Held.{Held, isNamed, names-facts, names-test, names-back, match-names, held-alike, held-undamaged, leads-here, leads-named, held-settled, entry-settled, slot-beside, held-beside}
+use Rattle.promises.proofs.Held.{Held, isNamed, names-facts, names-test, names-back, match-names, held-small, held-alike, held-undamaged, leads-here, leads-named, held-settled, slot-beside, held-beside}
 
 -- the entry in slot i agrees with what was counted
 pub record Stands (b : Beginning) (i : ℕ) (t : List ℕ) (past : List Told) : Type 0 where
@@ -137,7 +137,7 @@ module _ {b : Beginning} {i : ℕ} {t : List ℕ} {past : List Told} (now : Stan
               gives = rw (eq-eqb i i refl);
               stands = record {
                 held = held-settled held next;
-                agrees = subst (λ (x : Entry). Agrees b x (new message ∷ past)) (sym (entry-settled held next (agrees .unharmed) refl)) agrees;
+                agrees = subst (λ (x : Entry). Agrees b x (new message ∷ past)) (sym (entry-settled t i next (held .long) (held-small held) (agrees .unharmed) refl)) agrees;
               };
               untouched = λ z. cc;
             };

@@ -18,6 +18,7 @@ use Rattle.window.specs.Entry.{Entry}
 use Rattle.window.proofs.Entries.{UndamagedEntry, totals-small}
 use Rattle.window.proofs.Undamaged.{undamaged-facts, marks-small}
 use Rattle.slots.specs.Table.{slotOf, flagOf, csOf, keyIdLengthOf, keyIdOf, sourceLengthOf, sourceOf, keyOf, keyDataOf, windowOf, entryOf, historyBytes, settled, replaced, slotLength, slotCount, tableLength, occupiedAt, flagAt, suiteAt, keyIdLengthAt, keyIdAt, keyIdRoom, sourceLengthAt, sourceAt, sourceRoom, keyAt, sizeAt, highestAt, replaysAt}
+use Rattle.slots.proofs.Replacing.{slot-own}
 use Rattle.slots.proofs.Slots.{slot-length}
 use Rattle.slots.proofs.Standing.{Lies, joined, ahead, lies, number}
 
@@ -99,7 +100,7 @@ module _ (s : List ℕ) (e : Entry) (long : length s ≡ slotLength) where
   there : (j : ℕ) → Lies now (ahead lengths j) (getD stretches j [])
   there j = rw in-stretches (lies stretches lengths of-lengths j)
 
-  pub settled-entry : UndamagedEntry e → windowOf s .frame ≡ e .window .frame → entryOf now ≡ e
+  settled-entry : UndamagedEntry e → windowOf s .frame ≡ e .window .frame → entryOf now ≡ e
   settled-entry w frame =
       let u = undamaged-facts (e .window) (w .window) in
       let t = totals-small e w in
@@ -124,3 +125,10 @@ module _ (t : List ℕ) (i : ℕ) (e : Entry) (long : length t ≡ tableLength) 
   pub as-replaced : settled t i e ≡ replaced t i settledSlot
   unfolding settled
   as-replaced = put-within t (slotLength * i) slotLength highestAt (historyBytes e) (omega arith) (rw (length-history (slotOf t i) e (slot-length t i long small)) (lit≤ tt))
+
+  -- the slot itself, and its entry
+  pub slot-settled : slotOf (settled t i e) i ≡ settledSlot
+  slot-settled = rw as-replaced (slot-own t i settledSlot long small length-slot)
+
+  pub entry-settled : UndamagedEntry e → windowOf (slotOf t i) .frame ≡ e .window .frame → entryOf (slotOf (settled t i e) i) ≡ e
+  entry-settled unharmed frame = ap entryOf slot-settled ∙ settled-entry (slotOf t i) e (slot-length t i long small) unharmed frame
