@@ -9,12 +9,10 @@ use lib.Dec.{eqb, ltb}
 use lib.ListN.{length}
 use Rattle.format.specs.KeyData.{KeyData, known}
 use Rattle.format.specs.KeyId.{lengthOf}
-use Rattle.format.specs.Suite.{suiteOf, icvLengthOf, numberOf}
-use Rattle.format.specs.Header.{flagIn, versionIn, csIn, keyIdIn, seqNumIn, readOf, readAs, keyIdBytes, leastMessage, greatestMessage, fixedBytes}
+use Rattle.format.specs.Suite.{suiteOf, numberOf}
+use Rattle.format.specs.Header.{versionIn, csIn, keyIdIn, readOf, keyIdBytes, leastMessage, greatestMessage, fixedBytes}
 use Rattle.format.specs.declared.header.Header.{Header}
-use Rattle.format.specs.declared.header.Parsed.the-variants.{Read, BadLength, BadVersion, TooShort}
-use Rattle.format.specs.declared.suite.Numbered.{Numbered}
-use Rattle.format.specs.declared.suite.Numbered.the-variants.{Known, Unknown}
+use Rattle.format.specs.declared.header.Parsed.the-variants.{Read}
 use Rattle.format.proofs.Suites.{suite-number}
 use Rattle.message.specs.Sealing.{right}
 use Rattle.lookup.specs.Lookup.{leadsTo}
@@ -23,7 +21,15 @@ use Rattle.lookup.specs.declared.Found.the-variants.{At, Nothing}
 use Rattle.slots.specs.Table.{slotOf, csOf}
 use Rattle.promises.specs.Counted.{isOf, isGenuine}
 use Rattle.promises.specs.Replies.{noneOf, isNothing, icvIn, ledTo, slotIn, isAt, rightIn, receiveReplies}
+use Rattle.promises.proofs.Reading.{headerIn, said-by-tests}
 use Rattle.promises.proofs.Held.{Held, names-facts, names-test, leads-here, leads-named}
+
+past-four : (a b c d x y : Bool) → cond a false (cond b false (cond c false (cond d false (x && y)))) ≡ ((not a && (not b && (not c && (not d && x)))) && y)
+past-four true b c d x y = refl
+past-four false true c d x y = refl
+past-four false false true d x y = refl
+past-four false false false true x y = refl
+past-four false false false false x y = refl
 
 not-at : (i : ℕ) (f : Found) → (f ≡ At i → ⊥) → isAt i f ≡ false
 not-at i Nothing other = refl
@@ -64,25 +70,12 @@ module _ {k : KeyData} {i : ℕ} {t : List ℕ} (held : Held k i t) (m source : 
             (λ there. true≢false (sym (names-test k (h .flag) (keyIdBytes h m) source (leads-named held (h .flag) (keyIdBytes h m) source (l ∙ there))) ∙ e)))
             (sym (and-false (noneAt f)))
 
-  by-header : (b v : Bool) (n : Numbered) → readOf m ≡ cond b BadLength (cond v (readAs n m) BadVersion) → n ≡ suiteOf (csIn m)
-      → isGenuine k (cond b BadLength (cond v (readAs n m) BadVersion)) m source
-      ≡ ((not b && (not (not v) && (not (not (known n)) && (not (ltb (length m) (fixedBytes + lengthOf (keyIdIn m) + icvIn n)) && noneAt (ledTo t m source)))))
-      && isAt i (ledTo t m source))
-  by-header true v n e q = refl
-  by-header false false n e q = refl
-  by-header false true Unknown e q = refl
-  by-header false true (Known s) e q = by (ltb (length m) (fixedBytes + lengthOf (keyIdIn m) + icvLengthOf s)) e
-    where
-      h : Header
-      h = record { flag = flagIn m; suite = s; keyid = keyIdIn m; seqnum = seqNumIn m }
-
-      by : (c : Bool) → readOf m ≡ cond c TooShort (Read h)
-          → isGenuine k (cond c TooShort (Read h)) m source
-          ≡ ((not c && noneAt (ledTo t m source)) && isAt i (ledTo t m source))
-      by true e = refl
-      by false e = found h e (suite-number (csIn m) s q) (ledTo t m source) refl
-
   pub genuine-held : (out : List ℕ)
       → isGenuine k (readOf m) m source ≡ (noneOf (2 ∷ 3 ∷ 4 ∷ 5 ∷ 6 ∷ 8 ∷ 11 ∷ []) (receiveReplies t m source out) && isAt i (ledTo t m source))
-  unfolding readOf receiveReplies
-  genuine-held out = by-header (ltb (length m) leastMessage || ltb greatestMessage (length m)) (eqb (versionIn m) 0) (suiteOf (csIn m)) refl refl
+  unfolding receiveReplies
+  genuine-held out =
+      let f = ledTo t m source in
+      let n = suiteOf (csIn m) in
+      said-by-tests (λ p. isGenuine k p m source) m (noneAt f && isAt i f) (λ s q e. found (headerIn s m) e (suite-number (csIn m) s q) f refl)
+      ∙ past-four (ltb (length m) leastMessage || ltb greatestMessage (length m)) (not (eqb (versionIn m) 0)) (not (known n))
+      (ltb (length m) (fixedBytes + lengthOf (keyIdIn m) + icvIn n)) (noneAt f) (isAt i f)

@@ -6,6 +6,7 @@ pub mod Genuine
 pub mod Held
 pub mod History
 pub mod Lengths
+pub mod Reading
 pub mod Refusals
 pub mod Replies
 pub mod RoundTrip

@@ -11,14 +11,13 @@ use Rattle.window.specs.Window.{floorOf, marked, judge, soundFrame}
 use Rattle.window.specs.declared.Frame.{Frame}
 use Rattle.octets.specs.Octets.{put}
 use Rattle.answers.specs.Answers.{refused, outputRoom}
-use Rattle.format.specs.KeyId.{lengthOf}
 use Rattle.format.specs.KeyData.{known, soundOf, KeyData}
-use Rattle.format.specs.Suite.{suiteOf, icvLengthOf, numberOf}
-use Rattle.format.specs.Header.{payloadLength, flagIn, versionIn, csIn, keyIdIn, seqNumIn, readOf, readAs, leastMessage, greatestMessage, fixedBytes}
+use Rattle.format.specs.Suite.{suiteOf, numberOf}
+use Rattle.format.specs.Header.{payloadLength, csIn, seqNumIn, readOf, greatestMessage, fixedBytes}
 use Rattle.message.specs.Sealing.{right}
 use Rattle.message.specs.declared.sealing.Opened.the-variants.{Payload, Wrong}
 use Rattle.format.specs.declared.header.Header.{Header}
-use Rattle.format.specs.declared.header.Parsed.the-variants.{Read, BadLength, BadVersion, TooShort}
+use Rattle.format.specs.declared.header.Parsed.the-variants.{Read}
 use Rattle.format.specs.declared.suite.Numbered.{Numbered}
 use Rattle.format.specs.declared.suite.Numbered.the-variants.{Known, Unknown}
 use Rattle.listing.specs.Listing.{Listed, listed, listingOf}
@@ -36,6 +35,7 @@ use Rattle.sender.specs.Protect.{keyDataIn, payloadLimit, soundRecord, Outcome,
 use Rattle.sender.specs.declared.Sender.{Sender}
 use Rattle.format.proofs.Soundness.{sound-facts}
 use Rattle.format.proofs.Suites.{suite-number}
+use Rattle.promises.proofs.Reading.{headerIn, said-by-tests}
 use Rattle.promises.specs.Replies.{Reply, firstOf, testOf, earlier, noneFits, Exactly, isNumbered, distinct, isNothing, icvIn, ledTo, slotIn, rightIn, receiveReplies, installReplies, removeReplies, listingReplies, protectReplies}
 
 -- a choice between two, seen through a function or by the opposite test
@@ -163,26 +163,13 @@ module _ (t m source out : List ℕ) where
   found-reply h e n c Nothing = refl
   found-reply h e n c (At i) = slot-reply t i h m out ∙ rw (e, ← n, c)
 
-  header-reply : (b v : Bool) (n : Numbered) → readOf m ≡ cond b BadLength (cond v (readAs n m) BadVersion) → n ≡ suiteOf (csIn m)
-      → parsed (cond b BadLength (cond v (readAs n m) BadVersion)) t m source out .answer .reply
-      ≡ cond b 2 (cond (not v) 3 (cond (not (known n)) 4 (cond (ltb (length m) (fixedBytes + lengthOf (keyIdIn m) + icvIn n)) 5 (onward (ledTo t m source)))))
-  header-reply true v n e q = refl
-  header-reply false false n e q = refl
-  header-reply false true Unknown e q = refl
-  header-reply false true (Known s) e q = by (ltb (length m) (fixedBytes + lengthOf (keyIdIn m) + icvLengthOf s)) e
-    where
-      h : Header
-      h = record { flag = flagIn m; suite = s; keyid = keyIdIn m; seqnum = seqNumIn m }
-
-      by : (c : Bool) → readOf m ≡ cond c TooShort (Read h) → parsed (cond c TooShort (Read h)) t m source out .answer .reply ≡ cond c 5 (onward (ledTo t m source))
-      by true e = refl
-      by false e = found-reply h e refl (suite-number (csIn m) s q) (ledTo t m source)
-
   pub receive-reply : received t m source out .answer .reply ≡ firstOf (receiveReplies t m source out)
-  unfolding received receiveReplies readOf
+  unfolding received receiveReplies
   receive-reply =
       pushed (λ (l : Received). l .answer .reply) (ltb (length out) outputRoom) _ _
-      ∙ ap (cond (ltb (length out) outputRoom) 1) (header-reply (ltb (length m) leastMessage || ltb greatestMessage (length m)) (eqb (versionIn m) 0) (suiteOf (csIn m)) refl refl)
+      ∙ ap (cond (ltb (length out) outputRoom) 1)
+      (said-by-tests (λ p. parsed p t m source out .answer .reply) m (onward (ledTo t m source))
+      (λ s q e. found-reply (headerIn s m) e refl (suite-number (csIn m) s q) (ledTo t m source)))
 
 -- ---- listing
 
