@@ -3,9 +3,8 @@
 -- Assumes nothing.
 use mathlib.Core.Path.{_≡_, refl, sym, ap, ap₂, subst, _∙_}
 use mathlib.Core.Bool.{Bool, true, false, true≢false, cond, _&&_}
-use mathlib.Core.List.{List, [], _∷_, map}
+use mathlib.Core.List.{List, [], _∷_}
 use Prim.Native.Nat.{ℕ, _+_, _≤_}
-use native.Mathlib.Omega.{arith}
 use borrow.Author.Tests.{eqb-true}
 use lib.Dec.{eqb}
 use lib.ListN.{length}
@@ -17,7 +16,7 @@ use Rattle.window.specs.Entry.{Entry, taken}
 use Rattle.window.specs.declared.Verdict.{Verdict}
 use Rattle.window.specs.declared.Verdict.the-variants.{Below, Marked, Admissible}
 use Rattle.window.proofs.Entries.{taken-undamaged}
-use Rattle.format.specs.Header.{readOf, seqNumIn, payloadLength, keyIdBytes}
+use Rattle.format.specs.Header.{readOf, payloadLength, keyIdBytes}
 use Rattle.format.specs.KeyData.{KeyData}
 use Rattle.format.specs.Suite.{numberOf}
 use Rattle.format.specs.declared.header.Header.{Header}
@@ -32,9 +31,9 @@ use Rattle.slots.proofs.Settled.{entry-settled}
 use Rattle.lookup.proofs.Firsts.{leads-small}
 use Rattle.gateway.specs.Receive.{Received, handedOut, judged, received, replyOf}
 use Rattle.gateway.proofs.Arrivals.{Led, led-to, by-verdict, right-icv}
-use Rattle.promises.specs.Calls.{Call, arrival, install, remove, after, run, results}
+use Rattle.promises.specs.Calls.{Call, arrival, install, remove}
 use Rattle.promises.specs.Cases.{Step, repliedTo, entryAfter, goes, Follows, Like, Row}
-use Rattle.promises.specs.Counted.{Beginning, Told, isOf, isGenuine, told}
+use Rattle.promises.specs.Counted.{Beginning, Told, isOf, isGenuine}
 use Rattle.promises.specs.History.{Begins}
 use Rattle.promises.proofs.Held.{names-facts, leads-here}
 use Rattle.promises.proofs.Runs.{begun}

@@ -18,7 +18,7 @@ use Rattle.message.specs.Sealing.{right}
 use Rattle.lookup.specs.Lookup.{leadsTo}
 use Rattle.lookup.specs.declared.Found.{Found}
 use Rattle.lookup.specs.declared.Found.the-variants.{At, Nothing}
-use Rattle.slots.specs.Table.{slotOf, csOf}
+use Rattle.slots.specs.Table.{csOf}
 use Rattle.promises.specs.Counted.{isOf, isGenuine}
 use Rattle.promises.specs.Replies.{noneOf, isNothing, icvIn, ledTo, slotIn, isAt, rightIn, receiveReplies}
 use Rattle.promises.proofs.Reading.{headerIn, said-by-tests}

@@ -8,7 +8,7 @@ use lib.Dec.{eqb, ltb}
 use lib.ListN.{length}
 use Rattle.format.specs.KeyData.{known}
 use Rattle.format.specs.KeyId.{lengthOf}
-use Rattle.format.specs.Suite.{suiteOf, icvLengthOf}
+use Rattle.format.specs.Suite.{suiteOf}
 use Rattle.format.specs.Header.{flagIn, versionIn, csIn, keyIdIn, seqNumIn, readOf, readAs, leastMessage, greatestMessage, fixedBytes}
 use Rattle.format.specs.declared.header.Header.{Header}
 use Rattle.format.specs.declared.header.Parsed.{Parsed}

@@ -1,7 +1,7 @@
 -- Each reply is given exactly in its case: the reply is the first that fits, so its own test holds and none before it does.
 -- Assumes nothing.
 use mathlib.Core.Path.{_≡_, refl, sym, ap, _∙_}
-use mathlib.Core.Bool.{Bool, true, false, cond, not, _||_, _&&_, and-false}
+use mathlib.Core.Bool.{Bool, true, false, cond, not, _&&_, and-false}
 use mathlib.Core.List.{List, [], _∷_}
 use Prim.Native.Nat.{ℕ, _+_, _-_, _^_}
 use borrow.Author.Tests.{eqb-true, ne-eqb, not-true}

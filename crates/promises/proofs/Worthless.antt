@@ -14,7 +14,7 @@ use Rattle.answers.specs.declared.Answer.{Answer}
 use Rattle.slots.specs.Table.{slotOf, entryOf}
 use Rattle.promises.specs.Calls.{Call, arrival, install, remove, OfBytes, called, isDone}
 use Rattle.promises.specs.Counted.{Beginning, Message, Told, new, told}
-use Rattle.promises.specs.History.{Handed, nothing, one, answered, countedOf, Accounts}
+use Rattle.promises.specs.History.{nothing, one, answered, countedOf, Accounts}
 
 -- an answer that hands a message out at slot i
 pub record Gives (i : ℕ) (a : Answer) (x : Message) : Type 0 where
