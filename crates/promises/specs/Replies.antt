@@ -76,7 +76,7 @@ isNothing Nothing = true
 
 -- ---- receive
 
--- the ICV's length: the suite's, and 4 for a number that is none, whose reply is 4 before it can be 5
+-- the ICV's length: the suite's; and 01's four bytes where the number is no suite's, which is answered before the length is asked
 abbrev pub icvIn : Numbered → ℕ
 icvIn (Known s) = icvLengthOf s
 icvIn Unknown = 4
