@@ -1,5 +1,5 @@
--- What demand 3 shuts out, whatever a receive does: where a slot has to account for what is told, a counted message is handed out, it moves
--- the slot, and totals cannot be invented.
+-- What demand 3 shuts out, without a look into what a receive does: where a slot accounts for what is told, a counted message is handed out,
+-- it moves the slot, and totals cannot be invented.
 -- Assumes nothing.
 use mathlib.Core.Path.{_≡_, refl, sym, ap, _∙_}
 use mathlib.Core.Bool.{Bool, true, false, cond}
