@@ -20,8 +20,9 @@ extern "C" {
 #endif
 
 /* Bytes of a table: 16 slots. A table of zeros is an empty one. It may be kept and saved as it is. Any bytes are safe to hand in: a record that
- * breaks the damage rule (unsound key data, marks outside the window, totals beyond their bounds) is refused with 7. Other changes, of a byte of
- * a key or of a total within its bounds, are not noticed: whoever saves a table sees to it that it comes back as it was. */
+ * breaks the damage rule (unsound key data, a highest number and marks that do not fit each other, totals beyond their bounds) is refused with 7.
+ * Other changes, of a byte of a key or of a total within its bounds, are not noticed: whoever saves a table sees to it that it comes back as it
+ * was. */
 #define CRISP_TABLE 4608
 
 /* Room that crisp_receive, crisp_protect and crisp_listing ask of an output: as much as the longest message has. */
