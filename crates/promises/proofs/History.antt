@@ -34,8 +34,7 @@ use Rattle.promises.proofs.Beginnings.{install-begins}
 use Rattle.promises.proofs.Counting.{stays-in, counted-new, counted-told}
 use Rattle.promises.proofs.Genuine.{genuine-held}
 use Rattle.promises.proofs.Held.{names-facts, names-test, leads-here, leads-named}
-use Rattle.promises.proofs.Lengths.{run-long, run-append}
-use Rattle.promises.proofs.Runs.{begun, stands-on, hands-on, accounts}
+use Rattle.promises.proofs.Runs.{begun, stands-on, hands-on, accounts, run-long, run-append}
 use Rattle.promises.proofs.Steps.{Stands, arrives, step}
 use Rattle.promises.proofs.Traces.{allowed-called, trace-results, trace-run}
 use Rattle.promises.proofs.Worthless.{one-account}

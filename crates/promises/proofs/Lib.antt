@@ -5,7 +5,6 @@ pub mod Determined
 pub mod Genuine
 pub mod Held
 pub mod History
-pub mod Lengths
 pub mod Reading
 pub mod Refusals
 pub mod Replies

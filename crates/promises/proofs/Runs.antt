@@ -1,19 +1,21 @@
--- An entry from where its history begins: after any calls that do not end it, it agrees with what was counted.
+-- Calls one after the other: from where a history begins, after any calls that do not end it, the entry agrees with what was counted; which calls
+-- cannot end it; and that every call leaves a table as long as it was.
 -- Assumes nothing.
 use mathlib.Core.Path.{_≡_, refl, ap, subst, _∙_}
 use mathlib.Core.Bool.{false}
-use mathlib.Core.List.{List, [], _∷_}
+use mathlib.Core.List.{List, [], _∷_, _++_}
 use mathlib.Core.Logic.{_⊎_, inl, inr}
 use Prim.Native.Nat.{ℕ}
 use native.Mathlib.Omega.{arith}
 use borrow.Author.Tests.{ne-eqb}
 use lib.ListN.{length, length-map}
 use Rattle.format.proofs.Soundness.{Sound}
-use Rattle.slots.specs.Table.{slotOf}
+use Rattle.slots.specs.Table.{slotOf, tableLength}
 use Rattle.slots.proofs.Damage.{undamaged-sound, undamaged-entry}
 use Rattle.entries.specs.Install.{removed}
-use Rattle.entries.proofs.Outcomes.{Refuses, Frees, remove-outcome}
-use Rattle.promises.specs.Calls.{Call, arrival, install, remove, OfBytes, called, after, run, results, isDone}
+use Rattle.entries.proofs.Outcomes.{Refuses, Frees, remove-outcome, install-length, remove-length}
+use Rattle.gateway.proofs.Cascade.{received-length}
+use Rattle.promises.specs.Calls.{Call, arrival, install, remove, OfBytes, AllOfBytes, called, after, run, results, isDone}
 use Rattle.promises.specs.Counted.{Beginning, Message, Told, messages, told, toldFrom}
 use Rattle.promises.specs.History.{Begins, Handed, handed, noted, handedBy, ends, GoesOn, Spares, SpareAll, countedOf, Accounts}
 use Rattle.promises.proofs.Counting.{grown}
@@ -87,3 +89,19 @@ spares i t (remove j) s = by (remove-outcome t j)
 pub spared : (i : ℕ) (t : List ℕ) (cs : List Call) → SpareAll i cs → GoesOn i t cs
 spared i t [] s = tt
 spared i t (c ∷ cs) s = (s .0, spares i t c (s .1), spared i (after t c) cs (s .2))
+
+-- ---- tables
+
+after-long : (t : List ℕ) → length t ≡ tableLength → (c : Call) → OfBytes c → length (after t c) ≡ tableLength
+after-long t long (arrival m source out) bytes = received-length t long m source out
+after-long t long (install k f) bytes = install-length t long k f bytes
+after-long t long (remove i) bytes = remove-length t long i
+
+pub run-long : (t : List ℕ) → length t ≡ tableLength → (cs : List Call) → AllOfBytes cs → length (run t cs) ≡ tableLength
+run-long t long [] bytes = long
+run-long t long (c ∷ cs) bytes = run-long (after t c) (after-long t long c (bytes .0)) cs (bytes .1)
+
+-- a run in two parts is one run
+pub run-append : (t : List ℕ) (cs ds : List Call) → run t (cs ++ ds) ≡ run (run t cs) ds
+run-append t [] ds = refl
+run-append t (c ∷ cs) ds = run-append (after t c) cs ds
