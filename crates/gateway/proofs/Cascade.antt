@@ -12,7 +12,7 @@ use Rattle.answers.specs.Answers.{outputRoom, outputSmall, badLength, badVersio
 use Rattle.window.specs.Window.{verdictOf}
 use Rattle.window.specs.declared.Verdict.{Verdict}
 use Rattle.window.specs.declared.Verdict.the-variants.{Below, Marked, Admissible}
-use Rattle.format.specs.Header.{readOf, keyIdBytes, payloadLength}
+use Rattle.format.specs.Header.{readOf, keyIdBytes}
 use Rattle.message.specs.Sealing.{openedBy}
 use Rattle.message.specs.declared.sealing.Opened.{Opened}
 use Rattle.message.specs.declared.sealing.Opened.the-variants.{Payload, Wrong}
@@ -33,9 +33,9 @@ use Rattle.lookup.specs.declared.Found.the-variants.{At, Nothing}
 
 module _ (P : Received → Type 0) (t out : List ℕ) where
   -- at a slot
-  module _ (i : ℕ) (h : Header) (m : List ℕ) (done : P (handedOut t i h m out)) where
+  module _ (i : ℕ) (h : Header) (m : List ℕ) (done : (n : ℕ) → P (handedOut n t i h m out)) where
     by-icv : ((n : ℕ) → 8 ≤ n → P (kept t out n)) → (o : Opened) → P (unsealed o t i h m out)
-    by-icv refused (Payload n) = done
+    by-icv refused (Payload n) = done n
     by-icv refused Wrong = refused wrongIcv (lit≤ tt)
 
     by-verdict : ((n : ℕ) → 8 ≤ n → P (kept t out n)) → (v : Verdict) → P (judged v t i h m out)
@@ -56,7 +56,7 @@ module _ (P : Received → Type 0) (t out : List ℕ) where
     unfolding arrived
     of-arrived refused = either P (undamaged (slotOf t i)) _ (kept t out damaged) (λ _. of-undamaged (λ n l. refused n (omega arith))) (λ _. refused damaged (lit≤ tt))
 
-  module _ (refused : (n : ℕ) → 1 ≤ n → P (kept t out n)) (done : (i : ℕ) (h : Header) (m : List ℕ) → P (handedOut t i h m out)) where
+  module _ (refused : (n : ℕ) → 1 ≤ n → P (kept t out n)) (done : (i : ℕ) (h : Header) (m : List ℕ) (n : ℕ) → P (handedOut n t i h m out)) where
     of-led : (f : Found) (h : Header) (m : List ℕ) → P (led f t h m out)
     of-led Nothing h m = refused noEntry (lit≤ tt)
     of-led (At i) h m = of-arrived i h m (done i h m) refused
@@ -79,7 +79,7 @@ pub record NotSeven (r : Received) : Type 0 where
 pub never-seven : (t : List ℕ) (i : ℕ) (h : Header) (m out : List ℕ) → undamaged (slotOf t i) ≡ true → NotSeven (arrived t i h m out)
 unfolding arrived handedOut
 never-seven t i h m out unharmed =
-    rw unharmed (of-undamaged NotSeven t out i h m (record { other = λ z. omega arith }) (λ n least. record { other = λ z. omega arith }))
+    rw unharmed (of-undamaged NotSeven t out i h m (λ n. record { other = λ z. omega arith }) (λ n least. record { other = λ z. omega arith }))
 
 -- ---- the table stays as long as it was
 
@@ -90,11 +90,11 @@ module _ (t : List ℕ) (long : length t ≡ tableLength) where
   refused : (out : List ℕ) (n : ℕ) → Long (kept t out n)
   refused out n = record { is = long }
 
-  done : (h : Header) (m source out : List ℕ) (i : ℕ) → leadsTo t (h .flag) (keyIdBytes h m) source ≡ At i → Long (handedOut t i h m out)
+  done : (h : Header) (m source out : List ℕ) (i : ℕ) → leadsTo t (h .flag) (keyIdBytes h m) source ≡ At i → (n : ℕ) → Long (handedOut n t i h m out)
   unfolding handedOut
-  done h m source out i l =
+  done h m source out i l n =
       let small = leads-small t i (h .flag) (keyIdBytes h m) source l in
-      let e = taken (entryOf (slotOf t i)) (h .seqnum) (payloadLength h m) in
+      let e = taken (entryOf (slotOf t i)) (h .seqnum) n in
       record { is = ap length (as-replaced t i e long small) ∙ length-replaced t i (settledSlot t i e long small) long small (length-slot t i e long small) }
 
   by-slot : (h : Header) (m source out : List ℕ) (f : Found) → leadsTo t (h .flag) (keyIdBytes h m) source ≡ f → Long (led f t h m out)

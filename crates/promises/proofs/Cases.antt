@@ -59,7 +59,7 @@ module _ {t m source out : List ℕ} {h : Header} {i : ℕ} (c : Comes t m sourc
   abbrev Does : Received → Type 0
   Does = Turns (entryOf (slotOf t i)) i (h .seqnum) (payloadLength h m)
 
-  handed : verdictOf (windowOf (slotOf t i)) (h .seqnum) ≡ Admissible → Does (handedOut t i h m out)
+  handed : verdictOf (windowOf (slotOf t i)) (h .seqnum) ≡ Admissible → Does (handedOut (payloadLength h m) t i h m out)
   unfolding handedOut
   handed v =
       let entry = entryOf (slotOf t i) in

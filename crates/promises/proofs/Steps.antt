@@ -89,22 +89,22 @@ module _ {b : Beginning} {i : ℕ} {t : List ℕ} {past : List Told} (now : Stan
 
   module _ (h : Header) (m source out : List ℕ) where
     -- handed out at another slot
-    beside : (j : ℕ) → (j ≡ i → ⊥) → leadsTo t (h .flag) (keyIdBytes h m) source ≡ At j → Meets b i t past m source out apart (handedOut t j h m out)
+    beside : (j : ℕ) → (j ≡ i → ⊥) → leadsTo t (h .flag) (keyIdBytes h m) source ≡ At j → (n : ℕ) → Meets b i t past m source out apart (handedOut n t j h m out)
     unfolding handedOut
-    beside j other l =
+    beside j other l n =
         let long = held .long in
         let small = leads-small t j (h .flag) (keyIdBytes h m) source l in
         let a = match-facts (h .flag) (keyIdBytes h m) source (slotOf t j) (leads-matches t j (h .flag) (keyIdBytes h m) source l) in
-        let next = taken (entryOf (slotOf t j)) (h .seqnum) (payloadLength h m) in
+        let next = taken (entryOf (slotOf t j)) (h .seqnum) n in
         let slot = settledSlot t j next long small in
-        let n = length-slot t j next long small in
+        let full = length-slot t j next long small in
         let keys = settled-keys (slotOf t j) next (slot-length t j long small) (a .keyid-short) (a .source-short) in
         let mild : isNamed k slot ≡ true → isNamed k (slotOf t j) ≡ true = λ e. sym (same-matches keys (k .flag) (k .keyId) (k .source)) ∙ e in
         record {
           does =
               passing _ (settled t j next) apart refl (rw (ne-eqb j i other))
-              (rw (as-replaced t j next long small) (held-beside held j small slot n mild other))
-              (rw (as-replaced t j next long small) (slot-beside held j small slot n mild other));
+              (rw (as-replaced t j next long small) (held-beside held j small slot full mild other))
+              (rw (as-replaced t j next long small) (slot-beside held j small slot full mild other));
           writes = λ y e g read. cc;
         }
 
@@ -125,7 +125,7 @@ module _ {b : Beginning} {i : ℕ} {t : List ℕ} {past : List Told} (now : Stan
     abbrev entry : Entry
     entry = entryOf (slotOf t i)
 
-    handing : verdictOf (entry .window) (h .seqnum) ≡ Admissible → Lands b i t past m source out (new message) (handedOut t i h m out)
+    handing : verdictOf (entry .window) (h .seqnum) ≡ Admissible → Lands b i t past m source out (new message) (handedOut (message .payload) t i h m out)
     unfolding handedOut
     handing w =
         let room = read-room m read in
