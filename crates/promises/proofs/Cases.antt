@@ -5,81 +5,76 @@ use mathlib.Core.Path.{_≡_, refl, sym, ap, ap₂, subst, _∙_}
 use mathlib.Core.Bool.{Bool, true, false, true≢false, cond, _&&_}
 use mathlib.Core.List.{List, [], _∷_}
 use Prim.Native.Nat.{ℕ, _+_, _≤_}
-use borrow.Author.Tests.{eqb-true}
+use borrow.Author.Tests.{eqb-true, le-ltb}
 use lib.Dec.{eqb}
 use lib.ListN.{length}
 use Rattle.numbers.proofs.Tests.{and-left, and-right}
 use Rattle.answers.specs.Answers.{outputRoom}
 use Rattle.octets.specs.Octets.{Bytes}
-use Rattle.window.specs.Window.{View, floorOf, verdictOf, acceptOf}
+use Rattle.window.specs.Window.{View, floorOf, judge, verdictOf, acceptOf}
 use Rattle.window.specs.Entry.{Entry, taken}
-use Rattle.window.specs.declared.Verdict.{Verdict}
-use Rattle.window.specs.declared.Verdict.the-variants.{Below, Marked, Admissible}
-use Rattle.window.proofs.Entries.{taken-undamaged}
-use Rattle.format.specs.Header.{readOf, payloadLength, keyIdBytes}
-use Rattle.format.specs.KeyData.{KeyData}
+use Rattle.format.specs.Header.{readOf, seqNumIn, payloadLength}
 use Rattle.format.specs.Suite.{numberOf}
 use Rattle.format.specs.declared.header.Header.{Header}
 use Rattle.format.specs.declared.header.Parsed.{Parsed}
 use Rattle.format.specs.declared.header.Parsed.the-variants.{Read, BadLength, BadVersion, BadSuite, TooShort}
-use Rattle.format.proofs.Room.{read-room, payload-most, number-small}
+use Rattle.format.proofs.Room.{read-room}
 use Rattle.message.specs.Sealing.{right}
-use Rattle.slots.specs.Table.{slotOf, csOf, windowOf, entryOf, keyDataOf, tableLength}
-use Rattle.slots.specs.Record.{undamaged}
-use Rattle.slots.proofs.Damage.{undamaged-entry}
-use Rattle.slots.proofs.Settled.{entry-settled}
-use Rattle.lookup.proofs.Firsts.{leads-small}
-use Rattle.gateway.specs.Receive.{Received, handedOut, judged, received, replyOf}
-use Rattle.gateway.proofs.Arrivals.{Led, led-to, by-verdict, right-icv}
-use Rattle.promises.specs.Calls.{Call, arrival, install, remove}
-use Rattle.promises.specs.Cases.{Step, repliedTo, entryAfter, goes, Follows, Like, Row}
-use Rattle.promises.specs.Counted.{Beginning, Told, isOf, isGenuine}
-use Rattle.promises.specs.History.{Begins}
-use Rattle.promises.proofs.Held.{names-facts, leads-here}
+use Rattle.slots.specs.Table.{slotOf, entryOf}
+use Rattle.gateway.specs.Receive.{Received, received, replyOf}
+use Rattle.promises.specs.Calls.{Call, arrival, install, remove, called}
+use Rattle.promises.specs.Cases.{Step, repliedTo, entryAfter, Turns, goes, Follows, Like, Row}
+use Rattle.promises.specs.Counted.{Beginning, Message, Told, isBelow, isUsed, isOf, tested, told, isGenuine}
+use Rattle.promises.specs.History.{Begins, countedOf, replyTo}
 use Rattle.promises.proofs.Runs.{begun}
-use Rattle.promises.proofs.Steps.{Stands, unharmed, step}
+use Rattle.promises.proofs.Steps.{Stands, replied, step}
+use Rattle.promises.proofs.Counting.{verdict-agrees}
 
 -- ---- one message
 
--- a message that leads to an undamaged entry, and is genuine for it
-pub record Comes (t m source out : List ℕ) (h : Header) (i : ℕ) : Type 0 where
-  pub long : length t ≡ tableLength
-  pub bytes : Bytes m
-  pub led : Led t m source out h i
-  pub unharmed : undamaged (slotOf t i) ≡ true
-  pub suite : csOf (slotOf t i) ≡ numberOf (h .suite)
-  pub icv : right h (keyDataOf (slotOf t i)) m ≡ true
+module _ {b : Beginning} {i : ℕ} {t : List ℕ} {past : List Told} (now : Stands b i t past) (m source out : List ℕ) (bytes : Bytes m) (room : outputRoom ≤ length out) where
+  abbrev entry : Entry
+  entry = entryOf (slotOf t i)
 
--- the reply to it, and the entry after it
-pub record Turns (e : Entry) (i n bytes : ℕ) (r : Received) : Type 0 where
-  pub replies : r .answer .reply ≡ repliedTo e n
-  pub leaves : entryOf (slotOf (r .table) i) ≡ entryAfter e n bytes
+  abbrev call : Call
+  call = arrival m source out
 
-module _ {t m source out : List ℕ} {h : Header} {i : ℕ} (c : Comes t m source out h i) where
-  abbrev Does : Received → Type 0
-  Does = Turns (entryOf (slotOf t i)) i (h .seqnum) (payloadLength h m)
+  -- by the two tests on its number
+  by-tests : (x : Message) (low met : Bool) → told b past call ≡ tested low met true x → verdictOf (entry .window) (x .number) ≡ judge low met
+      → called t call .answer .reply ≡ replyTo (told b past call) → Turns entry i (x .number) (x .payload) (called t call)
+  by-tests x true met w v r = record { replies = r ∙ rw (w, v); leaves = rw v (ap entryOf (step now call bytes refl .untouched (ap countedOf w))) }
+  by-tests x false true w v r = record { replies = r ∙ rw (w, v); leaves = rw v (ap entryOf (step now call bytes refl .untouched (ap countedOf w))) }
+  by-tests x false false w v r = record { replies = r ∙ rw (w, v); leaves = rw v (step now call bytes refl .takes x (ap countedOf w)) }
 
-  handed : verdictOf (windowOf (slotOf t i)) (h .seqnum) ≡ Admissible → Does (handedOut (payloadLength h m) t i h m out)
-  unfolding handedOut
-  handed v =
-      let entry = entryOf (slotOf t i) in
-      let room = read-room m (c .led .read) in
-      let next = taken entry (h .seqnum) (payloadLength h m) in
-      let whole = taken-undamaged entry (h .seqnum) (payloadLength h m) (undamaged-entry (slotOf t i) (c .unharmed)) v (number-small room (c .bytes)) (payload-most room) in
-      record {
-        replies = rw v;
-        leaves = rw v (entry-settled t i next (c .long) (leads-small t i _ _ _ (c .led .found)) whole refl);
-      }
+  of-header : (h : Header) → readOf m ≡ Read h → isGenuine (b .keys) (Read h) m source ≡ true → Turns entry i (h .seqnum) (payloadLength h m) (called t call)
+  of-header h read g =
+      let k = b .keys in
+      let named = isOf k h m source in
+      let suite = eqb (k .suite) (numberOf (h .suite)) in
+      let both : (named && suite) ≡ true = and-left (named && suite) (right h k m) g in
+      let icv : right h k m ≡ true = and-right (named && suite) (right h k m) g in
+      by-tests (record { number = h .seqnum; payload = payloadLength h m }) (isBelow b past (h .seqnum)) (isUsed b past (h .seqnum))
+      (rw (le-ltb (length out) outputRoom room, read, both, icv)) (verdict-agrees (now .agrees) (h .seqnum))
+      (replied now m source out bytes room h read (and-left named suite both))
 
-  by : (v : Verdict) → verdictOf (windowOf (slotOf t i)) (h .seqnum) ≡ v → Does (judged v t i h m out)
-  by Below v = record { replies = rw v; leaves = rw v }
-  by Marked v = record { replies = rw v; leaves = rw v }
-  by Admissible v = rw (sym (right-icv t i h m out (c .icv))) (handed v)
+  -- of a message that is genuine for the entry
+  turns : isGenuine (b .keys) (readOf m) m source ≡ true → (n : ℕ) × Turns entry i (seqNumIn m) n (called t call)
+  turns genuine = by (readOf m) refl genuine
+    where
+      by : (p : Parsed) → readOf m ≡ p → isGenuine (b .keys) p m source ≡ true → (n : ℕ) × Turns entry i (seqNumIn m) n (called t call)
+      by (Read h) read g =
+          (payloadLength h m, subst (λ (n : ℕ). Turns entry i n (payloadLength h m) (called t call)) (read-room m read .number) (of-header h read g))
+      by BadLength read g = absurd (true≢false (sym g))
+      by BadVersion read g = absurd (true≢false (sym g))
+      by BadSuite read g = absurd (true≢false (sym g))
+      by TooShort read g = absurd (true≢false (sym g))
 
-  pub genuine-received : Does (received t m source out)
-  genuine-received =
-      let v = verdictOf (windowOf (slotOf t i)) (h .seqnum) in
-      rw (sym (led-to (c .led)), sym (by-verdict t i h m out (c .unharmed) (c .suite) v refl)) (by v refl)
+-- A genuine message that comes with room to an undamaged entry meets the reply of the window's verdict on its number, and leaves the entry with
+-- the message taken where that is 0.
+pub genuine-received : {b : Beginning} {i : ℕ} {t : List ℕ} → Begins b i t → (m source out : List ℕ) → Bytes m → outputRoom ≤ length out
+    → (h : Header) → readOf m ≡ Read h → isGenuine (b .keys) (Read h) m source ≡ true
+    → Turns (entryOf (slotOf t i)) i (h .seqnum) (payloadLength h m) (received t m source out)
+genuine-received begins = of-header (begun begins)
 
 -- ---- a row
 
@@ -95,36 +90,6 @@ alike-after {e} {f} n a b l =
     by false = l
 
 module _ {b : Beginning} {i : ℕ} where
-  -- a genuine message, at a table in which the entry stands
-  comes : {t : List ℕ} {past : List Told} → Stands b i t past → (m source out : List ℕ) → Bytes m → outputRoom ≤ length out
-      → isGenuine (b .keys) (readOf m) m source ≡ true → (h : Header) × Comes t m source out h i
-  comes {t} now m source out bytes room genuine = by (readOf m) refl genuine
-    where
-      by : (p : Parsed) → readOf m ≡ p → isGenuine (b .keys) p m source ≡ true → (h : Header) × Comes t m source out h i
-      by (Read h) read g =
-          let named = isOf (b .keys) h m source in
-          let suite = eqb (b .keys .suite) (numberOf (h .suite)) in
-          let both : (named && suite) ≡ true = and-left (named && suite) (right h (b .keys) m) g in
-          let keys = now .held .keys in (
-            h,
-            record {
-              long = now .held .long;
-              bytes = bytes;
-              led = record {
-                room = room;
-                read = read;
-                found = leads-here (now .held) (h .flag) (keyIdBytes h m) source (names-facts (b .keys) (h .flag) (keyIdBytes h m) source (and-left named suite both));
-              };
-              unharmed = unharmed now;
-              suite = ap (λ (x : KeyData). x .suite) keys ∙ eqb-true (b .keys .suite) (numberOf (h .suite)) (and-right named suite both);
-              icv = rw (ap (λ (x : KeyData). x .key) keys, ap (λ (x : KeyData). x .source) keys) (and-right (named && suite) (right h (b .keys) m) g);
-            },
-          )
-      by BadLength read g = absurd (true≢false (sym g))
-      by BadVersion read g = absurd (true≢false (sym g))
-      by BadSuite read g = absurd (true≢false (sym g))
-      by TooShort read g = absurd (true≢false (sym g))
-
   goes-on : {t : List ℕ} {past : List Told} (e : Entry) → Stands b i t past → Like (entryOf (slotOf t i)) e
       → (ss : List Step) (cs : List Call) → Follows (b .keys) ss cs → (accepted marks : ℕ) → goes e ss accepted marks ≡ true → Row i t cs ss accepted marks
   goes-on e now l [] [] f accepted marks g =
@@ -141,21 +106,19 @@ module _ {b : Beginning} {i : ℕ} where
   goes-on e now l (s ∷ ss) (install other frame ∷ cs) f accepted marks g = absurd f
   goes-on e now l (s ∷ ss) (remove j ∷ cs) f accepted marks g = absurd f
   goes-on {t} e now l (s ∷ ss) (arrival m source out ∷ cs) f accepted marks g =
-      let c = comes now m source out (f .0) (f .1) (f .2) in
-      let h = c .0 in
-      let turns = genuine-received (c .1) in
-      let number : h .seqnum ≡ s .number = read-room m (c .1 .led .read) .number ∙ f .3 in
+      let c = turns now m source out (f .0) (f .1) (f .2) in
+      let number : seqNumIn m ≡ s .number = f .3 in
       let next = entryAfter e (s .number) 0 in
       let replied = eqb (repliedTo e (s .number)) (s .reply) in
       let floor = eqb (floorOf (next .window)) (s .floor) in
       let both : (replied && floor) ≡ true = and-left (replied && floor) (goes next ss accepted marks) g in
       let alike : Like (entryOf (slotOf (received t m source out .table) i)) next =
-      rw (turns .leaves, number) (alike-after (s .number) (payloadLength h m) 0 l) in
+      rw (c .1 .leaves, number) (alike-after (s .number) (c .0) 0 l) in
       let rest = goes-on next (step now (arrival m source out) (f .0) refl .stands) alike ss cs (f .4) accepted marks (and-right (replied && floor) (goes next ss accepted marks) g) in
       record {
         replies =
             ap₂ (λ (n : ℕ) (ns : List ℕ). n ∷ ns)
-            (turns .replies ∙ ap (repliedTo (entryOf (slotOf t i))) number ∙ replies-alike (s .number) l ∙ eqb-true (repliedTo e (s .number)) (s .reply) (and-left replied floor both))
+            (c .1 .replies ∙ ap (repliedTo (entryOf (slotOf t i))) number ∙ replies-alike (s .number) l ∙ eqb-true (repliedTo e (s .number)) (s .reply) (and-left replied floor both))
             (rest .replies);
         floors =
             ap₂ (λ (n : ℕ) (ns : List ℕ). n ∷ ns)

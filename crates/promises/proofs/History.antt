@@ -13,6 +13,7 @@ use Rattle.answers.specs.Answers.{outputRoom}
 use Rattle.octets.specs.Octets.{Bytes, put}
 use Rattle.numbers.proofs.Tests.{either}
 use Rattle.window.specs.declared.Frame.{Frame}
+use Rattle.window.specs.Entry.{taken}
 use Rattle.format.specs.Header.{readOf, payloadLength, keyIdBytes}
 use Rattle.format.specs.KeyData.{KeyData}
 use Rattle.format.specs.Suite.{numberOf}
@@ -105,14 +106,10 @@ module _ {b : Beginning} {i : ℕ} {t : List ℕ} (begins : Begins b i t) where
         either NotSeven (ltb (length out) outputRoom) (kept (run t cs) out 1) (parsed (readOf message) (run t cs) message source out) (λ _. record { other = λ z. omega arith })
         (λ _. rw (read, leads) (never-seven (run t cs) i h message out (history cs goes .unharmed))) .other
 
-    -- A call that is counted adds its message to the totals.
+    -- A call that is counted leaves the entry with its message taken: the number in the window, 1 and the payload's length in the totals.
     pub counted-moves : (c : Call) → GoesOn i (run t cs) (c ∷ []) → (x : Message) → told b (toldBy b cs) c ≡ new x
-        → let e = entryOf (slotOf (run t cs) i) in let f = entryOf (slotOf (after (run t cs) c) i) in
-        (f .accepted ≡ e .accepted + 1) × (f .bytes ≡ e .bytes + x .payload)
-    counted-moves c further x is =
-        let e = stands cs goes .agrees in
-        let f = subst (λ (w : Told). Stands b i (after (run t cs) c) (w ∷ toldBy b cs)) is (step (stands cs goes) c (further .0) (further .1) .stands) .agrees in
-        (omega (arith, e .number, f .number), omega (arith, e .sum, f .sum))
+        → entryOf (slotOf (after (run t cs) c) i) ≡ taken (entryOf (slotOf (run t cs) i)) (x .number) (x .payload)
+    counted-moves c further x is = step (stands cs goes) c (further .0) (further .1) .takes x (ap countedOf is)
 
     -- A call that is not counted leaves every byte of the slot.
     pub uncounted-stays : (c : Call) → GoesOn i (run t cs) (c ∷ []) → countedOf (told b (toldBy b cs) c) ≡ nothing → slotOf (after (run t cs) c) i ≡ slotOf (run t cs) i

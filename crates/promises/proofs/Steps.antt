@@ -58,6 +58,7 @@ module _ (b : Beginning) (i : ℕ) (t : List ℕ) (past : List Told) where
   pub record Does (given : Handed) (next : List ℕ) (w : Told) : Type 0 where
     pub gives : given ≡ countedOf w
     pub stands : Stands b i next (w ∷ past)
+    pub takes : (x : Message) → countedOf w ≡ one x → entryOf (slotOf next i) ≡ taken (entryOf (slotOf t i)) (x .number) (x .payload)
     pub untouched : countedOf w ≡ nothing → slotOf next i ≡ slotOf t i
 
   -- the same of an arrival, and what it writes
@@ -80,7 +81,12 @@ module _ {b : Beginning} {i : ℕ} {t : List ℕ} {past : List Told} (now : Stan
   -- the call leaves the slot as it was
   passing : (given : Handed) (next : List ℕ) (w : Told) → countedOf w ≡ nothing → given ≡ nothing → Held k i next → slotOf next i ≡ slotOf t i → Does b i t past given next w
   passing given next w none g h same =
-      record { gives = g ∙ sym none; stands = record { held = h; agrees = rw same (still-agrees (now .agrees) w none) }; untouched = λ z. same }
+      record {
+        gives = g ∙ sym none;
+        stands = record { held = h; agrees = rw same (still-agrees (now .agrees) w none) };
+        takes = λ x e. cc;
+        untouched = λ z. same;
+      }
 
   refusing : (w : Told) → countedOf w ≡ nothing → (m source out : List ℕ) (n : ℕ) → 1 ≤ n → Meets b i t past m source out w (kept t out n)
   refusing w none m source out n some = record { does = passing _ t w none (rw (ne-eqb n 0 (λ z. omega arith))) held refl; writes = λ y e h read. cc }
@@ -131,14 +137,19 @@ module _ {b : Beginning} {i : ℕ} {t : List ℕ} {past : List Told} (now : Stan
         let room = read-room m read in
         let next = taken entry (h .seqnum) (payloadLength h m) in
         let agrees = taken-agrees (now .agrees) message w (number-small room bytes) (payload-most room) in
+        let moved = entry-settled t i next (held .long) (held-small held) (agrees .unharmed) refl in
         record {
           meets = record {
             does = record {
               gives = rw (eq-eqb i i refl);
               stands = record {
                 held = held-settled held next;
-                agrees = subst (λ (x : Entry). Agrees b x (new message ∷ past)) (sym (entry-settled t i next (held .long) (held-small held) (agrees .unharmed) refl)) agrees;
+                agrees = subst (λ (x : Entry). Agrees b x (new message ∷ past)) (sym moved) agrees;
               };
+              takes =
+                  λ x e.
+                  let same : message ≡ x = cc in
+                  subst (λ (y : Message). entryOf (slotOf (settled t i next) i) ≡ taken entry (y .number) (y .payload)) same moved;
               untouched = λ z. cc;
             };
             writes =
