@@ -21,7 +21,7 @@ use Rattle.format.specs.declared.header.Parsed.the-variants.{Read, BadLength, B
 use Rattle.format.proofs.Room.{read-room}
 use Rattle.message.specs.Sealing.{right}
 use Rattle.slots.specs.Table.{slotOf, entryOf}
-use Rattle.gateway.specs.Receive.{Received, received, replyOf}
+use Rattle.gateway.specs.Receive.{received, replyOf}
 use Rattle.promises.specs.Calls.{Call, arrival, install, remove, called}
 use Rattle.promises.specs.Cases.{Step, repliedTo, entryAfter, Turns, goes, Follows, Like, Row}
 use Rattle.promises.specs.Counted.{Beginning, Message, Told, isBelow, isUsed, isOf, tested, told, isGenuine}
