@@ -36,7 +36,7 @@ pub enum Verdict {
 
 impl Window {
     // The least number that is not too old.
-    pub fn floor(self) -> u64
+    pub(crate) fn floor(self) -> u64
         ensures { λ r. ⌜ r ≡ floorOf (viewOf self) ⌝ }
     {
         let size = self.frame.size;
@@ -91,7 +91,7 @@ impl Window {
     }
 
     // Whether the damage rule finds nothing in the window.
-    pub fn undamaged(self) -> bool
+    pub(crate) fn undamaged(self) -> bool
         ensures { λ r. ⌜ r ≡ undamagedWindow (viewOf self) ⌝ }
     {
         let marks = self.marks;
@@ -111,7 +111,7 @@ impl Window {
     }
 
     // How many numbers are marked.
-    pub fn count(self) -> u64
+    pub(crate) fn count(self) -> u64
         ensures { λ r. ⌜ (r ≡ countOf (viewOf self)) × (r ≤ 256) ⌝ }
     {
         let marks = self.marks;
