@@ -4,22 +4,11 @@
  * before, and with another value in a second run), and down to the lowest stack pointer (the call is single-stepped). x86-64, Linux. */
 #define _GNU_SOURCE
 #include "crisp.h"
+#include "on_stack.h"
 #include <signal.h>
 #include <stdio.h>
 #include <string.h>
 #include <ucontext.h>
-
-enum { STACK = 1 << 18 };
-static uint8_t stack[STACK] __attribute__((aligned(4096)));
-
-/* calls f with the stack pointer at top; with step not 0 the processor traps after each instruction */
-void on_stack(void (*f)(void), void *top, long step);
-__asm__(".text\non_stack:\n"
-        "    push %rbp\n    mov %rsp, %rbp\n    mov %rsi, %rsp\n"
-        "    test %rdx, %rdx\n    jz 1f\n    pushfq\n    orq $0x100, (%rsp)\n    popfq\n"
-        "1:  call *%rdi\n"
-        "    pushfq\n    andq $~0x100, (%rsp)\n    popfq\n"
-        "    mov %rbp, %rsp\n    pop %rbp\n    ret\n");
 
 static size_t written(void (*f)(void), int value)
 {

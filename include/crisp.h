@@ -1,13 +1,21 @@
-/* crisp.h: the receiver and the sender for the metering messages of a heat network (R 1323565.1.029-2019, suites 1 and 2), for C on x86-64.
+/* crisp.h: the receiver and the sender for the metering messages of a heat network (R 1323565.1.029-2019, suites 1 and 2), for C and C++ on
+ * x86-64.
  *
- * Link with libcrisp_c.a, which `rt staticlib crisp_c` writes to target/staticlib. The five functions are proved; what each answers, what it
- * leaves in the table or the record, and every byte of a buffer it was lent are those of one definition of its inputs (docs/PROMISES.md).
+ * `./install PREFIX` builds libcrisp_c.a and puts it below PREFIX with this header and a pkg-config file, `crisp`. The five functions are proved;
+ * what each answers, what it leaves in the table or the record, and every byte of a buffer it was lent are those of one definition of its inputs
+ * (docs/PROMISES.md).
  *
  * All functions: no input has to be checked first, and every call returns. A refusal answers its number with length, slot and seqnum 0, and
- * changes nothing: not the table, not the record, not the output. A pointer with a length points to that many bytes; with length 0 it may
- * point anywhere but must not be null. Buffers that a call is lent must not overlap, except that those it only reads may. One table or one
- * record is used by one call at a time; there is no other state, so different tables may be used at once. Keys are handed in as bytes and
- * are copied into the table; a removed entry leaves zeros.
+ * changes nothing: not the table, not the record, not the output. One table or one record is used by one call at a time; there is no other
+ * state, so different tables may be used at once. Keys are handed in as bytes and are copied into the table; a removed entry leaves zeros.
+ *
+ * Pointers: each points to as many bytes as its length says, at any address; a record is aligned as its type is. None may be null, not even with
+ * length 0: CRISP_NOTHING is there for that. A buffer that a call writes must not overlap another one that it is lent. Nothing is promised of a
+ * call with buffers that do: an answer of 0 with a wrong payload or a wrong message was seen. Buffers that a call only reads may overlap.
+ *
+ * Bare metal: libcrisp_c.a is compiled as Linux programs are. It writes up to 128 bytes below the stack pointer (the red zone), uses the
+ * registers of SSE2, and needs memcpy and memset and nothing else. Where an interrupt runs on the stack of what it interrupts, or SSE2 is off or
+ * not saved, take libcrisp_c_bare.a (pkg-config: `crisp-bare`): the same proved code, compiled to use neither. It needs memcpy and memset too.
  */
 #ifndef CRISP_H
 #define CRISP_H
@@ -19,15 +27,41 @@
 extern "C" {
 #endif
 
-/* Bytes of a table: 16 slots. A table of zeros is an empty one. It may be kept and saved as it is. Any bytes are safe to hand in: a record that
- * breaks the damage rule (unsound key data, a highest number and marks that do not fit each other, totals beyond their bounds) is refused with 7;
- * one whose stored KeyId or source is longer than its room matches no message, which is then refused with 6 unless another entry has its name.
- * Other changes, of a byte of a key or of a total within its bounds, are not noticed: whoever saves a table sees to it that it comes back as it
- * was. */
+/* The interface's version, 100 times the major one plus the minor one: the first is raised where a call of before has to be written anew or means
+ * something else, the second where something was added. */
+#define CRISP_VERSION 100
+
+/* The version of the two layouts, the table's and the record's, raised where either moves. Keep it beside a saved table or record: another
+ * layout's bytes are read as something else. */
+#define CRISP_LAYOUT 1
+
+/* Bytes of a table, and its slots. A table of zeros is an empty one. It may be kept and saved as it is (see "Keys" below). Any bytes are safe to
+ * hand in: a record that breaks the damage rule (unsound key data, a highest number and marks that do not fit each other, totals beyond their
+ * bounds) is refused with 7; one whose stored KeyId or source is longer than its room matches no message, which is then refused with 6 unless
+ * another entry has its name. Other changes, of a byte of a key or of a total within its bounds, are not noticed: whoever saves a table sees to
+ * it that it comes back as it was. */
 #define CRISP_TABLE 4608
+#define CRISP_SLOTS 16
 
 /* Room that crisp_receive, crisp_protect and crisp_listing ask of an output: as much as the longest message has. */
 #define CRISP_OUT 2048
+
+/* Bytes: the longest KeyId and source, a key, the longest payload with any KeyId, and with one of so many bytes. */
+#define CRISP_KEYID 128
+#define CRISP_SOURCE 32
+#define CRISP_KEY 32
+#define CRISP_PAYLOAD 2034
+#define CRISP_PAYLOAD_WITH(keyid_len) (2035 - (keyid_len))
+
+/* The largest window. */
+#define CRISP_SIZE 256
+
+/* A pointer to no bytes, which is not null: for a source or a payload of length 0. */
+#define CRISP_NOTHING ((const uint8_t *)"")
+
+/* Bytes of stack that a call takes at most, below its caller's frame: measured, not proved. In a program whose loader binds memcpy and memset at
+ * their first use (gcc's -z lazy), the first call takes what the loader takes on top of that. */
+#define CRISP_STACK 1536
 
 /* The replies. */
 enum {
@@ -59,45 +93,127 @@ struct crisp_answer {
 };
 
 /* A sender's record: key data, and the number of its last message. The first keyid_len and source_len bytes of the two arrays count. A new
- * sender starts with current 0. Keep the record: a number that is used twice is refused by the receiver. */
+ * sender starts with current 0.
+ *
+ * A number must not be used twice under one key. Of two messages with one number the receiver takes at most one; and in suite 1 both have the
+ * same gamma, so whoever sees both has the exclusive or of their payloads, and with one payload the other. Therefore save the record after
+ * crisp_protect and before the message leaves, and let it not leave if the record was not saved; never go on from an older copy; and where the
+ * record is lost, take a new key. Numbers that were saved and never sent do no harm. examples/kept.c does so. */
 struct crisp_sender {
     uint8_t flag;               /* ExternalKeyIdFlag, 0 or 1 */
-    uint8_t keyid[128];
+    uint8_t keyid[CRISP_KEYID];
     size_t keyid_len;           /* 1 to 128, as the first byte of keyid asks: 00 to 80 one, 81 to ff that less 7f */
-    uint8_t source[32];
+    uint8_t source[CRISP_SOURCE];
     size_t source_len;          /* 4 to 32 */
     uint8_t suite;              /* 1: enciphered; 2: in clear */
-    uint8_t key[32];
+    uint8_t key[CRISP_KEY];
     uint64_t current;
 };
+
+/* The two structs are laid out as the library has them; a #pragma pack in force here would change that. */
+#if defined(__cplusplus) && __cplusplus >= 201103L
+#define CRISP_CHECK(what, holds) static_assert(holds, #what)
+#elif defined(__STDC_VERSION__) && __STDC_VERSION__ >= 201112L
+#define CRISP_CHECK(what, holds) _Static_assert(holds, #what)
+#else
+#define CRISP_CHECK(what, holds) typedef char what[(holds) ? 1 : -1]
+#endif
+CRISP_CHECK(crisp_answer_is_laid_out_as_in_the_library,
+            offsetof(struct crisp_answer, reply) == 0 && offsetof(struct crisp_answer, length) == 8 && offsetof(struct crisp_answer, slot) == 16
+            && offsetof(struct crisp_answer, seqnum) == 24 && sizeof(struct crisp_answer) == 32);
+CRISP_CHECK(crisp_sender_is_laid_out_as_in_the_library,
+            offsetof(struct crisp_sender, flag) == 0 && offsetof(struct crisp_sender, keyid) == 1 && offsetof(struct crisp_sender, keyid_len) == 136
+            && offsetof(struct crisp_sender, source) == 144 && offsetof(struct crisp_sender, source_len) == 176
+            && offsetof(struct crisp_sender, suite) == 184 && offsetof(struct crisp_sender, key) == 185
+            && offsetof(struct crisp_sender, current) == 224 && sizeof(struct crisp_sender) == 232);
+
+/* What a compiler can tell a caller: the answer was ignored, a pointer is null, a buffer is shorter than its length. */
+#if defined(__GNUC__)
+#define CRISP_CALL __attribute__((warn_unused_result, nonnull))
+#else
+#define CRISP_CALL
+#endif
+#if defined(__GNUC__) && !defined(__clang__) && __GNUC__ >= 10
+#define CRISP_READS(pointer, length) __attribute__((access(read_only, pointer, length)))
+#define CRISP_WRITES(pointer, length) __attribute__((access(write_only, pointer, length)))
+#else
+#define CRISP_READS(pointer, length)
+#define CRISP_WRITES(pointer, length)
+#endif
+#if defined(__STDC_VERSION__) && __STDC_VERSION__ >= 199901L && !defined(__cplusplus)
+#define CRISP_AT_LEAST static
+#else
+#define CRISP_AT_LEAST
+#endif
 
 /* Puts a fresh entry into the lowest free slot. flag, keyid, source, suite and the 32-byte key are as in the record above; size is the
  * window's, 1 to 256. Done (0): slot is the slot taken; the entry has highest number 0, nothing accepted, totals 0. Refuses with 13 (key data
  * or size unsound, a flag over 1 with it), 14 (an occupied slot has the same flag and KeyId and, for flag 1, source) and 15 (no free slot), in
  * that order. Touches no other slot. */
-struct crisp_answer crisp_install(uint8_t *table, uint8_t flag, const uint8_t *keyid, size_t keyid_len, const uint8_t *source,
-                                  size_t source_len, uint8_t suite, const uint8_t *key, size_t key_len, uint64_t size);
+CRISP_CALL CRISP_READS(3, 4) CRISP_READS(5, 6) CRISP_READS(8, 9)
+struct crisp_answer crisp_install(uint8_t table[CRISP_AT_LEAST CRISP_TABLE], uint8_t flag, const uint8_t *keyid, size_t keyid_len,
+                                  const uint8_t *source, size_t source_len, uint8_t suite, const uint8_t *key, size_t key_len, uint64_t size);
 
 /* Frees a slot, which then holds zeros only; the entry's history is over. Done (0): slot is the slot freed. Refuses with 16 (slot over 15, or
  * free). Touches no other slot. */
-struct crisp_answer crisp_remove(uint8_t *table, size_t slot);
+CRISP_CALL
+struct crisp_answer crisp_remove(uint8_t table[CRISP_AT_LEAST CRISP_TABLE], size_t slot);
 
-/* Takes a message, with the source that came with it (for flag 0 it is ignored and may have length 0). Done (0): the payload stands at the
- * start of the output, later bytes stay; length is the payload's, slot the entry's, seqnum the message's number; the entry's window has moved
- * and its two totals have grown by 1 and by length. Refuses with 1 to 11 as listed above, in that order. Replies 1 to 6 are given before any
- * cipher block is computed, and the output is written only after the check value was found right. Touches no other slot. */
-struct crisp_answer crisp_receive(uint8_t *table, const uint8_t *message, size_t message_len, const uint8_t *source, size_t source_len,
-                                  uint8_t *out, size_t out_len);
+/* Takes a message, with the source that came with it; for flag 0 it is ignored, and CRISP_NOTHING with length 0 will do, null will not. Done (0):
+ * the payload stands at the start of the output, later bytes stay; length is the payload's, slot the entry's, seqnum the message's number; the
+ * entry's window has moved and its two totals have grown by 1 and by length. Refuses with 1 to 11 as listed above, in that order. Replies 1 to 6
+ * are given before any cipher block is computed, and the output is written only after the check value was found right. Touches no other slot.
+ * The output must not be where the message, the source or the table is: there is no opening in place.
+ *
+ * Save the table before the payload is used, and what is to be used beside it, in one file: a table that is older than what was used takes the
+ * same message for new after a restart, and a payload that was not saved is lost with a kill. examples/kept.c does so. */
+CRISP_CALL CRISP_READS(2, 3) CRISP_READS(4, 5) CRISP_WRITES(6, 7)
+struct crisp_answer crisp_receive(uint8_t table[CRISP_AT_LEAST CRISP_TABLE], const uint8_t *message, size_t message_len, const uint8_t *source,
+                                  size_t source_len, uint8_t *out, size_t out_len);
 
 /* Writes the next message for a payload. Done (0): the message stands at the start of the output, later bytes stay; length is the message's,
  * seqnum its number, which the record's current now is. Refuses with 1 (output under 2,048 bytes), 7 (unsound key data, or current over
- * 2^48 - 1), 2 (payload over 2,035 less keyid_len) and 12 (current is 2^48 - 1), in that order. Touches nothing of the record but current. */
+ * 2^48 - 1), 2 (payload over 2,035 less keyid_len) and 12 (current is 2^48 - 1), in that order. Touches nothing of the record but current, and
+ * writes that by every call, a refused one too, with the number that stood there: the record must not lie in memory that cannot be written. The
+ * output must not be where the payload or the record is. Save the record before the message leaves, as is said at the struct. */
+CRISP_CALL CRISP_READS(2, 3) CRISP_WRITES(4, 5)
 struct crisp_answer crisp_protect(struct crisp_sender *sender, const uint8_t *payload, size_t payload_len, uint8_t *out, size_t out_len);
 
 /* Writes the entry in a slot as text, from `slot=` to `bytes=`, each line ended by a line feed. Done (0): the text stands at the start of the
  * output, without a zero behind it, later bytes stay; length is the text's, slot the slot. Refuses with 1 (output under 2,048 bytes), 16
  * (slot over 15, or free) and 7 (record damaged), in that order. Does not touch the table. */
-struct crisp_answer crisp_listing(const uint8_t *table, size_t slot, uint8_t *out, size_t out_len);
+CRISP_CALL CRISP_WRITES(3, 4)
+struct crisp_answer crisp_listing(const uint8_t table[CRISP_AT_LEAST CRISP_TABLE], size_t slot, uint8_t *out, size_t out_len);
+
+/* Keys. Tables and records hold keys in clear, and so do their saved copies: let no other account read the files (mode 0600), nor their backups.
+ * A call leaves base and derived keys and payloads in the dead stack below its caller, and parts of them in registers. A careful caller forgets
+ * them, by the function below or by a stack of its own for the calls that it clears afterwards, and writes no core files.
+ *
+ * crisp_forget clears CRISP_STACK bytes below its caller's frame, and the registers that a call need not keep. Call it from the function that
+ * made the call, right after it. It is not proved; the tests find keys after each call and none after it. */
+#if defined(__GNUC__) && defined(__x86_64__)
+__attribute__((noinline, unused)) static void crisp_forget(void)
+{
+    __asm__ __volatile__("subq %0, %%rsp\n\tmovq %%rsp, %%rdi\n\tmovl %1, %%ecx\n\txorl %%eax, %%eax\n\trep stosq\n\taddq %0, %%rsp"
+                         : : "i"(CRISP_STACK), "i"(CRISP_STACK / 8) : "rax", "rcx", "rdi", "cc", "memory");
+    __asm__ __volatile__("xorl %%edx, %%edx\n\txorl %%esi, %%esi\n\txorl %%r8d, %%r8d\n\txorl %%r9d, %%r9d\n\t"
+                         "xorl %%r10d, %%r10d\n\txorl %%r11d, %%r11d" : : : "rdx", "rsi", "r8", "r9", "r10", "r11", "cc");
+#ifdef __SSE2__
+    __asm__ __volatile__("pxor %%xmm0, %%xmm0\n\tpxor %%xmm1, %%xmm1\n\tpxor %%xmm2, %%xmm2\n\tpxor %%xmm3, %%xmm3\n\t"
+                         "pxor %%xmm4, %%xmm4\n\tpxor %%xmm5, %%xmm5\n\tpxor %%xmm6, %%xmm6\n\tpxor %%xmm7, %%xmm7"
+                         : : : "xmm0", "xmm1", "xmm2", "xmm3", "xmm4", "xmm5", "xmm6", "xmm7");
+    __asm__ __volatile__("pxor %%xmm8, %%xmm8\n\tpxor %%xmm9, %%xmm9\n\tpxor %%xmm10, %%xmm10\n\tpxor %%xmm11, %%xmm11\n\t"
+                         "pxor %%xmm12, %%xmm12\n\tpxor %%xmm13, %%xmm13\n\tpxor %%xmm14, %%xmm14\n\tpxor %%xmm15, %%xmm15"
+                         : : : "xmm8", "xmm9", "xmm10", "xmm11", "xmm12", "xmm13", "xmm14", "xmm15");
+#endif
+}
+#endif
+
+#undef CRISP_CHECK
+#undef CRISP_CALL
+#undef CRISP_READS
+#undef CRISP_WRITES
+#undef CRISP_AT_LEAST
 
 #ifdef __cplusplus
 }

@@ -1,6 +1,8 @@
-# tools.sh: sourced by tests/run and bench/run. Finds or installs what they need, builds the two archives, and sets:
-#   CROSS    the C compiler for x86-64        X86    what runs its programs ('' on an x86-64 machine, else the emulator)
-#   BUILD    the folder for what is built
+# tools.sh: sourced by tests/run and bench/run. Finds or installs what they need, installs the library below BUILD, and sets:
+#   CROSS    the C compiler for x86-64        FOR    what its names begin with ('' on an x86-64 machine)
+#   X86      what runs its programs ('' on an x86-64 machine, else the emulator)
+#   BUILD    the folder for what is built     LIB    where the archives are
+#   CRISP, BARE    the compiler's words for the library and for the one for bare metal, by pkg-config
 
 # need PACKAGE COMMAND..: installs Debian's package where the command does not succeed
 need() {
@@ -14,16 +16,19 @@ need() {
 
 need gcc cc --version
 need libc6-dev test -e /usr/include/stdio.h
+need pkg-config pkg-config --version
 if [ "$(uname -m)" = x86_64 ]; then
-    CROSS=cc X86=
+    CROSS=cc FOR='' X86=
 else
     need gcc-x86-64-linux-gnu x86_64-linux-gnu-gcc --version
     need qemu-user qemu-x86_64 --version
-    CROSS=x86_64-linux-gnu-gcc X86=qemu-x86_64
+    CROSS=x86_64-linux-gnu-gcc FOR=x86_64-linux-gnu- X86=qemu-x86_64
 fi
 
 BUILD=target/c
+LIB=$BUILD/prefix/lib
 mkdir -p "$BUILD"
-for archive in crisp_c cipher_c; do
-    rt staticlib "$archive" >"$BUILD/$archive.log" 2>&1 || { tail -n 5 "$BUILD/$archive.log"; echo "$archive is not proved"; exit 2; }
-done
+./install "$BUILD/prefix" || exit 2
+rt staticlib cipher_c >"$BUILD/cipher_c.log" 2>&1 || { tail -n 5 "$BUILD/cipher_c.log"; echo "cipher_c is not proved"; exit 2; }
+CRISP=$(PKG_CONFIG_LIBDIR=$LIB/pkgconfig pkg-config --cflags --libs crisp) || exit 2
+BARE=$(PKG_CONFIG_LIBDIR=$LIB/pkgconfig pkg-config --cflags --libs crisp-bare) || exit 2

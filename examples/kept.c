@@ -1,0 +1,189 @@
+/* A sender and a gateway that may be killed, or lose their power, at any point: what they know is kept in files of a folder.
+ *
+ *   kept new FOLDER             makes both, with a new key
+ *   kept send FOLDER READING    writes a message with that reading to standard output, as a line of hex
+ *   kept receive FOLDER         takes such lines from standard input and books each new reading in FOLDER/booked, once
+ *   kept list FOLDER            prints the gateway's entry
+ *
+ * Two rules: the sender saves its record before the message leaves, so no number is used twice; the gateway saves its table and the line that it is
+ * about to book in one file, and books that line again when it comes back, so each reading is booked once. The files hold keys: only their owner can
+ * read them. Build: cc kept.c $(pkg-config --cflags --libs crisp) */
+#define _POSIX_C_SOURCE 200809L
+#include "crisp.h"
+#include <errno.h>
+#include <fcntl.h>
+#include <stdio.h>
+#include <stdlib.h>
+#include <string.h>
+#include <sys/file.h>
+#include <unistd.h>
+
+/* What is kept. The mark names the layout, so that a file of another one is not read as one of this. */
+#define WORD(n) #n
+#define MARK(what, layout) what WORD(layout)
+static const char sender_mark[16] = MARK("crisp record ", CRISP_LAYOUT), gateway_mark[16] = MARK("crisp table ", CRISP_LAYOUT);
+
+static struct {
+    char mark[16];
+    struct crisp_sender record;
+} sender;
+
+static struct {
+    char mark[16];
+    uint8_t table[CRISP_TABLE];
+    uint64_t booked;                    /* bytes of FOLDER/booked in front of the line below */
+    uint64_t length;
+    char line[2 * CRISP_PAYLOAD + 64];  /* the line that is booked last */
+} gateway;
+
+static int folder;
+static const uint8_t keyid[] = {0x05}, source[] = {'m', 'e', 't', 'e', 'r', ' ', '1', '7'};
+
+static void stop(const char *what, const char *why)
+{
+    fprintf(stderr, "kept: %s: %s\n", what, why);
+    exit(1);
+}
+
+static void failed(const char *what) { stop(what, strerror(errno)); }
+
+static void write_all(int file, const void *bytes, size_t n, const char *name)
+{
+    const char *p = bytes;
+    while (n > 0) {
+        ssize_t done = write(file, p, n);
+        if (done < 0) failed(name);
+        p += done;
+        n -= (size_t)done;
+    }
+}
+
+/* Whenever it is interrupted, the old bytes or the new ones stand there, whole: a new file is written beside the old one and flushed, takes its
+ * place, and the folder is flushed. Once it has returned, the new bytes stay. */
+static void save(const char *name, const void *bytes, size_t n)
+{
+    int file = openat(folder, "new", O_WRONLY | O_CREAT | O_TRUNC | O_CLOEXEC, 0600);
+    if (file < 0) failed(name);
+    write_all(file, bytes, n, name);
+    if (fsync(file) || close(file)) failed(name);
+    if (renameat(folder, "new", folder, name) || fsync(folder)) failed(name);
+}
+
+/* A file that is missing, shorter, longer or of another layout is never taken for a fresh start. */
+static void restore(const char *name, void *bytes, size_t n, const char *mark)
+{
+    char more;
+    int file = openat(folder, name, O_RDONLY | O_CLOEXEC);
+    if (file < 0) failed(name);
+    if (read(file, bytes, n) != (ssize_t)n || read(file, &more, 1) != 0 || memcmp(bytes, mark, 16) != 0) stop(name, "not as it was kept");
+    close(file);
+}
+
+static void make(void)
+{
+    struct crisp_sender *r = &sender.record;
+    int dice = open("/dev/urandom", O_RDONLY | O_CLOEXEC);
+    if (faccessat(folder, "record", F_OK, 0) == 0) stop("record", "there is one");
+    if (dice < 0 || read(dice, r->key, sizeof r->key) != (ssize_t)sizeof r->key) failed("a new key");
+    close(dice);
+    r->flag = 1;
+    memcpy(r->keyid, keyid, r->keyid_len = sizeof keyid);
+    memcpy(r->source, source, r->source_len = sizeof source);
+    r->suite = 1;
+    struct crisp_answer a = crisp_install(gateway.table, 1, keyid, sizeof keyid, source, sizeof source, 1, r->key, sizeof r->key, 64);
+    if (a.reply != CRISP_DONE) stop("install", "refused");
+    memcpy(gateway.mark, gateway_mark, 16);
+    memcpy(sender.mark, sender_mark, 16);
+    save("table", &gateway, sizeof gateway);
+    save("record", &sender, sizeof sender);
+}
+
+static void to_hex(char *text, const uint8_t *bytes, size_t n)
+{
+    for (size_t i = 0; i < n; i++) snprintf(text + 2 * i, 3, "%02x", bytes[i]);
+    memcpy(text + 2 * n, "\n", 2);
+}
+
+static void send_one(const char *reading)
+{
+    static uint8_t message[CRISP_OUT];
+    static char line[2 * CRISP_OUT + 2];
+    restore("record", &sender, sizeof sender, sender_mark);
+    struct crisp_answer a = crisp_protect(&sender.record, (const uint8_t *)reading, strlen(reading), message, sizeof message);
+    crisp_forget();
+    if (a.reply != CRISP_DONE) stop("protect", "refused");
+    to_hex(line, message, a.length);
+    save("record", &sender, sizeof sender);
+    write_all(STDOUT_FILENO, line, 2 * a.length + 1, "standard output");
+}
+
+/* Puts the last line where it belongs, whether it stands there already, in part, or not yet. */
+static void book(void)
+{
+    int file = openat(folder, "booked", O_WRONLY | O_CREAT | O_CLOEXEC, 0600);
+    if (file < 0 || ftruncate(file, (off_t)gateway.booked) || lseek(file, 0, SEEK_END) < 0) failed("booked");
+    write_all(file, gateway.line, (size_t)gateway.length, "booked");
+    if (fsync(file) || close(file) || fsync(folder)) failed("booked");
+}
+
+/* The bytes that the hex at the line's start writes, in the line's own place. */
+static size_t from_hex(char *line)
+{
+    static const char digits[] = "0123456789abcdef";
+    size_t n = 0;
+    for (const char *high, *low; line[2 * n] && (high = strchr(digits, line[2 * n])); n++) {
+        if (!line[2 * n + 1] || !(low = strchr(digits, line[2 * n + 1]))) break;
+        line[n] = (char)((high - digits) << 4 | (low - digits));
+    }
+    return n;
+}
+
+static void receive_one(const uint8_t *message, size_t n)
+{
+    static uint8_t payload[CRISP_OUT];
+    struct crisp_answer a = crisp_receive(gateway.table, message, n, source, sizeof source, payload, sizeof payload);
+    crisp_forget();
+    printf("reply %llu\n", (unsigned long long)a.reply);
+    if (a.reply != CRISP_DONE) return;          /* and the table is as it was */
+    gateway.booked += gateway.length;
+    int front = snprintf(gateway.line, sizeof gateway.line, "slot %zu, number %llu: ", a.slot, (unsigned long long)a.seqnum);
+    to_hex(gateway.line + front, payload, a.length);
+    gateway.length = strlen(gateway.line);
+    save("table", &gateway, sizeof gateway);
+    book();
+}
+
+static void receive_all(void)
+{
+    char *line = NULL;
+    size_t room = 0;
+    restore("table", &gateway, sizeof gateway, gateway_mark);
+    book();
+    while (getline(&line, &room, stdin) > 0) {
+        size_t n = from_hex(line);
+        receive_one((const uint8_t *)line, n);
+    }
+    free(line);
+}
+
+static void list(void)
+{
+    static uint8_t text[CRISP_OUT];
+    restore("table", &gateway, sizeof gateway, gateway_mark);
+    struct crisp_answer a = crisp_listing(gateway.table, 0, text, sizeof text);
+    if (a.reply != CRISP_DONE) stop("listing", "refused");
+    printf("%.*s", (int)a.length, (const char *)text);
+}
+
+int main(int argc, char **argv)
+{
+    if (argc < 3) stop("usage", "kept new|send|receive|list FOLDER [READING]");
+    folder = open(argv[2], O_RDONLY | O_DIRECTORY | O_CLOEXEC);
+    if (folder < 0 || flock(folder, LOCK_EX)) failed(argv[2]);          /* one program at a time has the files */
+    if (strcmp(argv[1], "new") == 0) make();
+    else if (strcmp(argv[1], "send") == 0 && argc > 3) send_one(argv[3]);
+    else if (strcmp(argv[1], "receive") == 0) receive_all();
+    else if (strcmp(argv[1], "list") == 0) list();
+    else stop(argv[1], "there is no such command");
+    return 0;
+}
