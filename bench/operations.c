@@ -156,6 +156,11 @@ static int protect_a_1(uint64_t n) { return protects(1, 37, n); }
 static int protect_a_2(uint64_t n) { return protects(2, 37, n); }
 static int protect_2048_1(uint64_t n) { return protects(1, 2034, n); }
 static int protect_2048_2(uint64_t n) { return protects(2, 2034, n); }
+static int forget(uint64_t n)
+{
+    while (n--) crisp_forget();
+    return 0;
+}
 
 static const struct {
     const char *name;
@@ -165,7 +170,7 @@ static const struct {
     {"receive-A.1", receive_a_1}, {"receive-A.2", receive_a_2}, {"receive-2048-suite-1", receive_2048_1}, {"receive-2048-suite-2", receive_2048_2},
     {"receive-A.1-slot-15", receive_slot_15}, {"refuse-version", refuse_version}, {"refuse-no-entry", refuse_no_entry},
     {"refuse-no-entry-16-slots", refuse_no_entry_16}, {"refuse-icv", refuse_icv}, {"protect-A.1", protect_a_1}, {"protect-A.2", protect_a_2},
-    {"protect-2048-suite-1", protect_2048_1}, {"protect-2048-suite-2", protect_2048_2},
+    {"protect-2048-suite-1", protect_2048_1}, {"protect-2048-suite-2", protect_2048_2}, {"forget", forget},
 };
 
 int main(int argc, char **argv)
