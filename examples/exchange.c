@@ -1,5 +1,5 @@
 /* A sender and a gateway in one program: three messages are sent, the second arrives first and once more later, and the entry is listed.
- * Build: see tests/run. */
+ * Nothing is kept here; examples/kept.c shows how. Build: cc exchange.c $(pkg-config --cflags --libs crisp) */
 #include "crisp.h"
 #include <stdio.h>
 #include <string.h>

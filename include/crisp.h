@@ -59,8 +59,8 @@ extern "C" {
 /* A pointer to no bytes, which is not null: for a source or a payload of length 0. */
 #define CRISP_NOTHING ((const uint8_t *)"")
 
-/* Bytes of stack that a call takes at most, below its caller's frame: measured, not proved. In a program whose loader binds memcpy and memset at
- * their first use (gcc's -z lazy), the first call takes what the loader takes on top of that. */
+/* Bytes of stack that a call takes at most, below its caller's frame: measured, not proved (docs/COSTS.md). In a program whose loader binds memcpy
+ * and memset at their first use (linked with -z lazy), that call takes more, for the loader: 2,568 bytes were seen. */
 #define CRISP_STACK 1536
 
 /* The replies. */
@@ -98,7 +98,7 @@ struct crisp_answer {
  * A number must not be used twice under one key. Of two messages with one number the receiver takes at most one; and in suite 1 both have the
  * same gamma, so whoever sees both has the exclusive or of their payloads, and with one payload the other. Therefore save the record after
  * crisp_protect and before the message leaves, and let it not leave if the record was not saved; never go on from an older copy; and where the
- * record is lost, take a new key. Numbers that were saved and never sent do no harm. examples/kept.c does so. */
+ * record is lost, take a new key. Numbers that were saved and never sent do no harm. examples/kept.c among the sources does so. */
 struct crisp_sender {
     uint8_t flag;               /* ExternalKeyIdFlag, 0 or 1 */
     uint8_t keyid[CRISP_KEYID];
@@ -165,8 +165,9 @@ struct crisp_answer crisp_remove(uint8_t table[CRISP_AT_LEAST CRISP_TABLE], size
  * are given before any cipher block is computed, and the output is written only after the check value was found right. Touches no other slot.
  * The output must not be where the message, the source or the table is: there is no opening in place.
  *
- * Save the table before the payload is used, and what is to be used beside it, in one file: a table that is older than what was used takes the
- * same message for new after a restart, and a payload that was not saved is lost with a kill. examples/kept.c does so. */
+ * Save the table before the payload is used, and in the same file what is to become of the payload. After a restart, a table older than what was
+ * used takes the same message as new; and one that was saved without the payload refuses it as repeated. examples/kept.c among the sources does
+ * so. */
 CRISP_CALL CRISP_READS(2, 3) CRISP_READS(4, 5) CRISP_WRITES(6, 7)
 struct crisp_answer crisp_receive(uint8_t table[CRISP_AT_LEAST CRISP_TABLE], const uint8_t *message, size_t message_len, const uint8_t *source,
                                   size_t source_len, uint8_t *out, size_t out_len);

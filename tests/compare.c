@@ -13,10 +13,6 @@
 
 enum { ENTRIES = 24, KEPT = 64, ROOM = 2304 };
 
-/* the record as the library has it: key data in a struct of its own, and the number behind it */
-_Static_assert(offsetof(struct crisp_sender, keyid_len) == 136 && offsetof(struct crisp_sender, source) == 144 && offsetof(struct crisp_sender, suite) == 184
-               && offsetof(struct crisp_sender, current) == 224 && sizeof(struct crisp_sender) == 232 && sizeof(struct crisp_answer) == 32, "layout");
-
 /* ---- what was called, for the report */
 
 static char trace[1 << 18];
