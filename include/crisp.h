@@ -191,7 +191,7 @@ struct crisp_answer crisp_listing(const uint8_t table[CRISP_AT_LEAST CRISP_TABLE
  * them, by the function below or by a stack of its own for the calls that it clears afterwards, and writes no core files.
  *
  * crisp_forget clears CRISP_STACK bytes below its caller's frame, and the registers that a call need not keep. Call it from the function that
- * made the call, right after it. It is not proved; the tests find keys after each call and none after it. */
+ * made the call, right after it. It is not proved; the tests find keys after crisp_receive and crisp_protect, and none after crisp_forget. */
 #if defined(__GNUC__) && defined(__x86_64__)
 __attribute__((noinline, unused)) static void crisp_forget(void)
 {
