@@ -58,15 +58,24 @@ static void write_all(int file, const void *bytes, size_t n, const char *name)
     }
 }
 
+/* One program at a time has the record, and one the table, until it ends. */
+static void lock(const char *name)
+{
+    int file = openat(folder, name, O_WRONLY | O_CREAT | O_CLOEXEC, 0600);
+    if (file < 0 || flock(file, LOCK_EX)) failed(name);
+}
+
 /* Whenever it is interrupted, the old bytes or the new ones stand there, whole: a new file is written beside the old one and flushed, takes its
  * place, and the folder is flushed. Once it has returned, the new bytes stay. */
 static void save(const char *name, const void *bytes, size_t n)
 {
-    int file = openat(folder, "new", O_WRONLY | O_CREAT | O_TRUNC | O_CLOEXEC, 0600);
+    char fresh[16];
+    snprintf(fresh, sizeof fresh, "%s.new", name);
+    int file = openat(folder, fresh, O_WRONLY | O_CREAT | O_TRUNC | O_CLOEXEC, 0600);
     if (file < 0) failed(name);
     write_all(file, bytes, n, name);
     if (fsync(file) || close(file)) failed(name);
-    if (renameat(folder, "new", folder, name) || fsync(folder)) failed(name);
+    if (renameat(folder, fresh, folder, name) || fsync(folder)) failed(name);
 }
 
 /* A file that is missing, shorter, longer or of another layout is never taken for a fresh start. */
@@ -83,6 +92,8 @@ static void make(void)
 {
     struct crisp_sender *r = &sender.record;
     int dice = open("/dev/urandom", O_RDONLY | O_CLOEXEC);
+    lock("record.lock");
+    lock("table.lock");
     if (faccessat(folder, "record", F_OK, 0) == 0) stop("record", "there is one");
     if (dice < 0 || read(dice, r->key, sizeof r->key) != (ssize_t)sizeof r->key) failed("a new key");
     close(dice);
@@ -108,6 +119,7 @@ static void send_one(const char *reading)
 {
     static uint8_t message[CRISP_OUT];
     static char line[2 * CRISP_OUT + 2];
+    lock("record.lock");
     restore("record", &sender, sizeof sender, sender_mark);
     struct crisp_answer a = crisp_protect(&sender.record, (const uint8_t *)reading, strlen(reading), message, sizeof message);
     crisp_forget();
@@ -157,6 +169,7 @@ static void receive_all(void)
 {
     char *line = NULL;
     size_t room = 0;
+    lock("table.lock");
     restore("table", &gateway, sizeof gateway, gateway_mark);
     book();
     while (getline(&line, &room, stdin) > 0) {
@@ -179,7 +192,7 @@ int main(int argc, char **argv)
 {
     if (argc < 3) stop("usage", "kept new|send|receive|list FOLDER [READING]");
     folder = open(argv[2], O_RDONLY | O_DIRECTORY | O_CLOEXEC);
-    if (folder < 0 || flock(folder, LOCK_EX)) failed(argv[2]);          /* one program at a time has the files */
+    if (folder < 0) failed(argv[2]);
     if (strcmp(argv[1], "new") == 0) make();
     else if (strcmp(argv[1], "send") == 0 && argc > 3) send_one(argv[3]);
     else if (strcmp(argv[1], "receive") == 0) receive_all();

@@ -252,7 +252,7 @@ static void hold(int step, enum way how, int at)
 
 static void clean(void)
 {
-    static const char *const names[] = {"record", "table", "booked", "new", "undo", "wire", "part"};
+    static const char *const names[] = {"record", "record.new", "record.lock", "table", "table.new", "table.lock", "booked", "undo", "wire", "part"};
     for (size_t i = 0; i < sizeof names / sizeof *names; i++) unlink(in_place(names[i]));
 }
 
