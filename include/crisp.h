@@ -46,7 +46,7 @@ extern "C" {
 /* Room that crisp_receive, crisp_protect and crisp_listing ask of an output: as much as the longest message has. */
 #define CRISP_OUT 2048
 
-/* Bytes: the longest KeyId and source, a key, the longest payload with any KeyId, and with one of so many bytes. */
+/* Bytes: the longest KeyId and source, a key, and the longest payload: with a KeyId of one byte, and with one of keyid_len bytes. */
 #define CRISP_KEYID 128
 #define CRISP_SOURCE 32
 #define CRISP_KEY 32
@@ -187,8 +187,9 @@ CRISP_CALL CRISP_WRITES(3, 4)
 struct crisp_answer crisp_listing(const uint8_t table[CRISP_AT_LEAST CRISP_TABLE], size_t slot, uint8_t *out, size_t out_len);
 
 /* Keys. Tables and records hold keys in clear, and so do their saved copies: let no other account read the files (mode 0600), nor their backups.
- * A call leaves base and derived keys and payloads in the dead stack below its caller, and parts of them in registers. A careful caller forgets
- * them, by the function below or by a stack of its own for the calls that it clears afterwards, and writes no core files.
+ * crisp_receive and crisp_protect leave the base key and parts of the derived keys in the dead stack below their caller, and bytes of a key or of
+ * the payload in registers. A careful caller clears them, by the function below or by a stack of its own for the calls that it clears afterwards,
+ * and writes no core files.
  *
  * crisp_forget clears CRISP_STACK bytes below its caller's frame, and the registers that a call need not keep. Call it from the function that
  * made the call, right after it. It is not proved; the tests find keys after crisp_receive and crisp_protect, and none after crisp_forget. */
