@@ -74,3 +74,21 @@ full = 15
 -- slot over 15, or free
 abbrev pub noSlot : ℕ
 noSlot = 16
+
+-- ---- 02, No. 1
+
+-- header bad or file size outside 24 to 65,536
+abbrev pub badCapture : ℕ
+badCapture = 17
+
+-- record header or data runs past the end
+abbrev pub cutShort : ℕ
+cutShort = 18
+
+-- captured and original length differ
+abbrev pub lengthsDiffer : ℕ
+lengthsDiffer = 19
+
+-- record empty, or identifier runs past the record
+abbrev pub unreadable : ℕ
+unreadable = 20

@@ -11,7 +11,7 @@ pub struct Answer {
     pub seqnum: u64,
 }
 
-// The replies, as 01 lists them.
+// The replies, as 01 and 02 list them.
 pub const DONE: u64 = 0;
 
 pub const OUTPUT_SMALL: u64 = 1;
@@ -45,6 +45,14 @@ pub const TWIN: u64 = 14;
 pub const FULL: u64 = 15;
 
 pub const NO_SLOT: u64 = 16;
+
+pub const BAD_CAPTURE: u64 = 17;
+
+pub const CUT_SHORT: u64 = 18;
+
+pub const LENGTHS_DIFFER: u64 = 19;
+
+pub const UNREADABLE: u64 = 20;
 
 // Bytes that an output has to have, whatever is written into it.
 pub const OUTPUT: usize = 2048;

@@ -6,11 +6,10 @@ use mathlib.Core.List.{List, [], _∷_}
 use Prim.Native.Nat.{ℕ, zero, suc, _+_, _-_, _/_, _%_, _≤_, _<_}
 use native.Mathlib.Nat.{add-zero, add-suc}
 use native.Mathlib.Omega.{arith}
-use lib.Dec.{lit<}
 use lib.ListN.{length, getD, take, drop, length-take, length-drop, drop-of-length-le}
 use lib.Seq.{length-take-le, drop-append-le, drop-at, drop-drop, take-add}
 use Rattle.octets.specs.Octets.{Bytes, bigEndian, bytesOf, part}
-use Rattle.octets.proofs.BigEndian.{bytes-drop, length-bytes, bytes-number}
+use Rattle.octets.proofs.BigEndian.{bytes-drop, bytes-take, length-bytes, bytes-number}
 use Rattle.octets.proofs.Parts.{length-part}
 use Rattle.format.proofs.KeyIds.{length-most}
 use Rattle.slots.specs.Table.{flagOf, csOf, keyIdLengthOf, keyIdOf, sourceLengthOf, sourceOf, slotLength, keyIdLengthAt, keyIdAt, sourceAt, sizeAt, highestAt, marksAt, acceptedAt, bytesAt, keyIdRoom}
@@ -34,12 +33,6 @@ last-bytes m n l h b =
     ∙ ap (drop m) (bytes-number (m + n) l h b ∙ take-add m n l)
     ∙ drop-at (take m l) (take n (drop m l)) m (length-take-le m l (omega arith))
 
-bytes-front : (n : ℕ) (l : List ℕ) → Bytes l → Bytes (take n l)
-bytes-front zero l b i = lit< tt
-bytes-front (suc n) [] b i = lit< tt
-bytes-front (suc n) (x ∷ xs) b zero = b zero
-bytes-front (suc n) (x ∷ xs) b (suc i) = bytes-front n xs (λ j. b (suc j)) i
-
 -- a part as it is lent, by its end, is no longer than it says
 pub part-most : (at n : ℕ) (l : List ℕ) → length (take (at + n - at) (drop at l)) ≤ n
 part-most at n l = omega (arith, length-take (at + n - at) (drop at l))
@@ -54,7 +47,7 @@ module _ (s : List ℕ) (long : length s ≡ slotLength) (b : Bytes s) where
   pub keyid-short : undamaged s ≡ true → keyIdLengthOf s ≤ keyIdRoom
   keyid-short u =
       let n : length (keyIdOf s) ≡ keyIdLengthOf s = length-part keyIdAt (keyIdLengthOf s) s (omega (arith, b keyIdLengthAt)) in
-      let first : getD (keyIdOf s) 0 0 < 256 = bytes-front (keyIdLengthOf s) (drop keyIdAt s) (bytes-drop keyIdAt s b) 0 in
+      let first : getD (keyIdOf s) 0 0 < 256 = bytes-take (keyIdLengthOf s) (drop keyIdAt s) (bytes-drop keyIdAt s b) 0 in
       omega (arith, undamaged-sound s u .keyid-length, length-most (getD (keyIdOf s) 0 0) 0 first)
 
   -- the lines that the arrivals moved

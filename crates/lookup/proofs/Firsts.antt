@@ -87,6 +87,13 @@ found-too test other i e passes both =
     lowest other i (found test slotCount 0 i e .0) passes
     (λ j l. not-eq-not .0 (λ p. true≢false (sym (both j l p) ∙ lower test i e j l)))
 
+-- two tests that agree find the same
+pub first-same : (test other : ℕ → Bool) (n i : ℕ) → ((j : ℕ) → j < i + n → test j ≡ other j) → firstFrom test n i ≡ firstFrom other n i
+first-same test other zero i agree = refl
+first-same test other (suc n) i agree =
+    ap (λ (b : Bool). cond b (At i) (firstFrom test n (suc i))) (agree i (omega arith))
+    ∙ ap (cond (other i) (At i)) (first-same test other n (suc i) (λ j l. agree j (omega arith)))
+
 module _ (t : List ℕ) (i : ℕ) where
   pub leads-small : (flag : ℕ) (keyId source : List ℕ) → leadsTo t flag keyId source ≡ At i → i < slotCount
   unfolding leadsTo

@@ -17,6 +17,12 @@ use Rattle.octets.specs.Octets.{Bytes, bigEndian, bytesOf}
 pub bytes-drop : (n : ℕ) (l : List ℕ) → Bytes l → Bytes (drop n l)
 bytes-drop n l b i = rw (getD-drop n l i 0) (b (n + i))
 
+pub bytes-take : (n : ℕ) (l : List ℕ) → Bytes l → Bytes (take n l)
+bytes-take zero l b i = lit< tt
+bytes-take (suc n) [] b i = lit< tt
+bytes-take (suc n) (x ∷ xs) b zero = b zero
+bytes-take (suc n) (x ∷ xs) b (suc i) = bytes-take n xs (λ j. b (suc j)) i
+
 -- a number that grows by a byte
 pub grown : (n x y : ℕ) → x < 2 ^ (8 * n) → y < 256 → x * 256 + y < 2 ^ (8 * suc n)
 grown n x y h k = omega (arith, width 8 n)

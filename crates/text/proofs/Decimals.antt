@@ -38,6 +38,20 @@ wider (suc n) x h = go (decLt x 10) (wider n (x / 10) (omega (arith, pow-suc 10 
     go (yes k) e = small (suc n) x k ∙ sym (small (suc (suc n)) x k)
     go (no k) e = large (suc n) x (omega arith) ∙ ap (λ (t : List ℕ). t ++ ((48 + x % 10) ∷ [])) e ∙ sym (large (suc (suc n)) x (omega arith))
 
+-- and no more digits than it takes
+few : (m n x : ℕ) → x < 10 ^ suc n → length (decimalIn m x) ≤ suc n
+unfolding decimalIn
+few zero n x h = omega arith
+few (suc m) zero x h = rw (small m x (omega arith)) (omega arith)
+few (suc m) (suc n) x h = go (decLt x 10) (few m n (x / 10) (omega (arith, pow-suc 10 (suc n))))
+  where
+    go : Dec (x < 10) → length (decimalIn m (x / 10)) ≤ suc n → length (decimalIn (suc m) x) ≤ suc (suc n)
+    go (yes k) l = rw (small m x k) (omega arith)
+    go (no k) l = rw (large m x (omega arith), length-append) (omega arith)
+
+pub digits-most : (n x : ℕ) → x < 10 ^ suc n → length (decimalOf x) ≤ suc n
+digits-most n x h = few 20 n x h
+
 pub length-decimal : (x : ℕ) → length (decimalOf x) ≤ 20
 length-decimal x = most 20 x
 

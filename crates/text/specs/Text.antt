@@ -1,4 +1,4 @@
--- Numbers and bytes as text, and lines of it.
+-- Numbers and bytes as text: fields, a name and a number each, and lines, which a line feed ends.
 use mathlib.Core.Bool.{cond}
 use mathlib.Core.List.{List, [], _∷_, _++_}
 use Prim.Native.Nat.{ℕ, zero, suc, _+_, _/_, _%_}
@@ -22,8 +22,11 @@ unfoldable pub hexOf : List ℕ → List ℕ
 hexOf [] = []
 hexOf (x ∷ xs) = glyph (x / 16) ∷ glyph (x % 16) ∷ hexOf xs
 
+abbrev pub decimalField : List ℕ → ℕ → List ℕ
+decimalField name x = name ++ decimalOf x
+
 abbrev pub decimalLine : List ℕ → ℕ → List ℕ
-decimalLine name x = name ++ decimalOf x ++ (10 ∷ [])
+decimalLine name x = decimalField name x ++ (10 ∷ [])
 
 abbrev pub hexLine : List ℕ → List ℕ → List ℕ
 hexLine name bytes = name ++ hexOf bytes ++ (10 ∷ [])

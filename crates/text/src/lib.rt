@@ -1,9 +1,9 @@
-// Numbers and bytes as text: decimals, hex, and lines of it.
+// Numbers and bytes as text: decimals, hex, and fields and lines of it.
 ghost use mathlib.Core.Path.{_≡_};
 ghost use Prim.Native.Nat.{_+_, _*_, _≤_, _<_};
 ghost use lib.ListN.{length};
 ghost use Rattle.octets.specs.Octets.{put};
-ghost use Rattle.text.specs.Text.{decimalOf, glyph, hexOf, decimalLine, hexLine};
+ghost use Rattle.text.specs.Text.{decimalOf, glyph, hexOf, decimalField, decimalLine, hexLine};
 
 const LINE_FEED: u8 = 10;
 
@@ -13,16 +13,25 @@ pub fn write_decimal_line(name: &[u8], number: u64, out: &mut [u8], at: usize) -
     ensures { λ r. ⌜ (r ≡ at + length (decimalLine (now (name .entry)) number)) × (r ≤ at + length (now (name .entry)) + 21) ⌝ }
     ensures { λ r. ⌜ now (out .exit) ≡ put (now (out .entry)) at (decimalLine (now (name .entry)) number) ⌝ }
 {
-    octets::copy(name, out, at);
-    let end = write_decimal(number, out, at + name.len());
+    let end = write_decimal_field(name, number, out, at);
     out[end] = LINE_FEED;
     end + 1
 }
 
+// A name and a number in decimal are written at `at`. Answers where they end.
+pub fn write_decimal_field(name: &[u8], number: u64, out: &mut [u8], at: usize) -> usize
+    requires { ⌜ (length (now name) ≤ 16) × (at + length (now name) + 20 ≤ length (now out)) ⌝ }
+    ensures { λ r. ⌜ (r ≡ at + length (decimalField (now (name .entry)) number)) × (r ≤ at + length (now (name .entry)) + 20) ⌝ }
+    ensures { λ r. ⌜ now (out .exit) ≡ put (now (out .entry)) at (decimalField (now (name .entry)) number) ⌝ }
+{
+    octets::copy(name, out, at);
+    write_decimal(number, out, at + name.len())
+}
+
 // A name, bytes in hex and a line feed are written at `at`. Answers where they end.
 pub fn write_hex_line(name: &[u8], bytes: &[u8], out: &mut [u8], at: usize) -> usize
-    requires { ⌜ (length (now name) ≤ 16) × (length (now bytes) ≤ 128) × (at + 300 ≤ length (now out)) ⌝ }
-    ensures { λ r. ⌜ (r ≡ at + length (hexLine (now (name .entry)) (now (bytes .entry)))) × (r ≤ at + length (now (name .entry)) + 257) ⌝ }
+    requires { ⌜ (length (now name) ≤ 16) × (at + length (now name) + 2 * length (now bytes) < length (now out)) ⌝ }
+    ensures { λ r. ⌜ (r ≡ at + length (hexLine (now (name .entry)) (now (bytes .entry)))) × (r ≡ at + length (now (name .entry)) + 2 * length (now (bytes .entry)) + 1) ⌝ }
     ensures { λ r. ⌜ now (out .exit) ≡ put (now (out .entry)) at (hexLine (now (name .entry)) (now (bytes .entry))) ⌝ }
 {
     octets::copy(name, out, at);

@@ -43,6 +43,9 @@ returns c =
     let third = fourth .before .before .before .before .before .before in
     let second = third .before .before .before .before .before .before in
     let first = second .before .before .before .before .before .before in
+    let there = first .before .before .before .before .before in
+    let k = known there in
+    let s = slot there in
     let a = first .before .before .before .before .before .before .before .args in
     let e₁ = first .write-decimal-line .ensures in
     let e₂ = second .write-decimal-line2 .ensures in
@@ -50,7 +53,7 @@ returns c =
     let e₄ = fourth .write-hex-line2 .ensures in
     let w = named-written (a .out .now) (a .i) (a .slot .now)
     (record { ends = e₁ .0 .0; is = e₁ .1 }) (record { ends = e₂ .0 .0; is = e₂ .1 }) (record { ends = e₃ .0 .0; is = e₃ .1 }) (record { ends = e₄ .0 .0; is = e₄ .1 }) in
-    ((rw zero-add at (w .ends), omega (arith, e₁ .0 .1, e₂ .0 .1, e₃ .0 .1, e₄ .0 .1)), w .is)
+    ((rw zero-add at (w .ends), omega (arith, e₁ .0 .1, e₂ .0 .1, e₃ .0 .1, e₄ .0 .1, part-most keyIdAt (keyIdLengthOf s) s, part-most sourceAt (sourceLengthOf s) s)), w .is)
 
 pub write-named-spec : {M : Type 1} → statement M
 write-named-spec =
@@ -66,9 +69,9 @@ write-named-spec =
     (λ c. omega (arith, c .shared-slice-known4 .given flagAt))
     (λ c κs. search needs) (λ c. search needs) (λ c. search needs) (λ c. search needs)
     (λ c. let k = known (before-keyid c) in omega arith)
-    (λ c κs. let s = before-keyid (c .before .before) in let k = known s in (search needs, omega (arith, part-most keyIdAt (keyIdLengthOf (slot s)) (slot s)), search needs))
+    (λ c κs. let s = before-keyid (c .before .before) in let k = known s in (search needs, omega (arith, part-most keyIdAt (keyIdLengthOf (slot s)) (slot s))))
     (λ c. search needs) (λ c. search needs) (λ c. search needs)
     (λ c. let k = known (before-source c) in omega arith)
-    (λ c κs. let s = before-source (c .before .before) in let k = known s in (search needs, omega (arith, part-most sourceAt (sourceLengthOf (slot s)) (slot s)), search needs))
+    (λ c κs. let s = before-source (c .before .before) in let k = known s in (search needs, omega (arith, part-most sourceAt (sourceLengthOf (slot s)) (slot s))))
     (λ c. search needs)
     returns)

@@ -1,0 +1,4 @@
+pub mod Numbers
+pub mod Orders
+pub mod Places
+pub mod Records

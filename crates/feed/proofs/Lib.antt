@@ -1,0 +1,5 @@
+pub mod Lines
+pub mod Reading
+pub mod Reports
+pub mod Room
+pub mod Turns
