@@ -9,6 +9,11 @@ use Rattle.answers.specs.declared.Answer.{Answer}
 use Rattle.entries.specs.Install.{Left, IsLeft, installed, removed}
 use Rattle.listing.specs.Listing.{IsListed, listed}
 use Rattle.gateway.specs.Receive.{IsReceived, received}
+use Rattle.capture.specs.Capture.{orderOf, recordAt}
+use Rattle.capture.specs.declared.order.Order.{Order}
+use Rattle.capture.specs.declared.record.Record.{Record}
+use Rattle.feed.specs.Report.{IsReported, reported}
+use Rattle.feed.specs.declared.Summary.{Summary}
 use Rattle.sender.specs.Protect.{Protects, withNumber}
 use Rattle.sender.specs.declared.Sender.{Sender}
 
@@ -43,3 +48,16 @@ module _ {a b : Answer} {t u : List ℕ} where
   by-value-determined s payload out p q =
       let d = protect-determined s payload out p q in
       (d .0, ap (λ (x : Sender). x .current) (d .1), d .2)
+
+-- ---- captures
+
+pub report-determined : (table file out : List ℕ) {r s : Summary} {t u x y : List ℕ}
+    → IsReported (reported table file out) r t x → IsReported (reported table file out) s u y → (r ≡ s) × (t ≡ u) × (x ≡ y)
+report-determined table file out p q = (same (p .answers) (q .answers), same (p .leaves) (q .leaves), same (p .writes) (q .writes))
+
+-- of a file no more is answered than what its bytes say
+pub order-determined : (file : List ℕ) {o p : Order} → o ≡ orderOf file → p ≡ orderOf file → o ≡ p
+order-determined file = same
+
+pub record-determined : (o : Order) (file : List ℕ) (at : ℕ) {r s : Record} → r ≡ recordAt o file at → s ≡ recordAt o file at → r ≡ s
+record-determined o file at = same

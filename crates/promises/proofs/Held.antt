@@ -1,6 +1,6 @@
 -- An entry in its slot: exactly the messages that name it lead there, and what another slot is given changes nothing of it.
 -- Assumes nothing.
-use mathlib.Core.Path.{_≡_, sym, ap, subst, _∙_}
+use mathlib.Core.Path.{_≡_, refl, sym, ap, subst, _∙_}
 use mathlib.Core.Bool.{Bool, true, _&&_, _||_}
 use mathlib.Core.List.{List, []}
 use Prim.Native.Nat.{ℕ, _<_}
@@ -86,6 +86,18 @@ module _ (k : KeyData) (flag : ℕ) (keyId source : List ℕ) where
       (match-test flag keyId (k .source) s (match-facts flag keyId source s h) (λ some. match-source flag keyId source s h some ∙ sym (n .source-same some)))
 
 -- ---- where messages lead
+
+-- to a slot whose own name leads there too
+pub own-leads : (t : List ℕ) (i flag : ℕ) (keyId source : List ℕ) → leadsTo t flag keyId source ≡ At i
+    → let k = keyDataOf (slotOf t i) in leadsTo t (k .flag) (k .keyId) (k .source) ≡ At i
+unfolding leadsTo
+own-leads t i flag keyId source l =
+    let k = keyDataOf (slotOf t i) in
+    let other : KeyData = record { flag = flag; keyId = keyId; source = source; suite = 0; key = [] } in
+    let hit = leads-matches t i flag keyId source l in
+    let n = match-names k flag keyId source (slotOf t i) refl hit in
+    found-too (λ j. matches flag keyId source (slotOf t j)) (λ j. isNamed k (slotOf t j)) i l (match-named k flag keyId source (slotOf t i) n hit)
+    (λ j m. match-named other (k .flag) (k .keyId) (k .source) (slotOf t j) (names-back {k = k} {other = other} n))
 
 module _ {k : KeyData} {i : ℕ} {t : List ℕ} (held : Held k i t) where
   pub held-small : i < slotCount

@@ -1,4 +1,6 @@
+pub mod Arrivals
 pub mod Beginnings
+pub mod Captures
 pub mod Cases
 pub mod Counting
 pub mod Determined

@@ -3,10 +3,11 @@
 use mathlib.Core.Path.{_≡_, refl, sym, ap, _∙_}
 use mathlib.Core.Bool.{Bool, true, false, cond, not, _&&_, and-false}
 use mathlib.Core.List.{List, [], _∷_}
-use Prim.Native.Nat.{ℕ, _+_, _-_, _^_}
+use Prim.Native.Nat.{ℕ, _+_, _-_, _^_, _<_}
+use native.Mathlib.Omega.{arith}
 use borrow.Author.Tests.{eqb-true, ne-eqb, not-true}
 use lib.Dec.{eqb, ltb}
-use lib.ListN.{length}
+use lib.ListN.{length, getD}
 use Rattle.window.specs.Window.{floorOf, marked, judge, soundFrame}
 use Rattle.window.specs.declared.Frame.{Frame}
 use Rattle.octets.specs.Octets.{put}
@@ -30,13 +31,19 @@ use Rattle.slots.specs.Table.{slotOf, occupied, csOf, windowOf, slotCount, keyD
 use Rattle.lookup.specs.declared.Found.{Found}
 use Rattle.lookup.specs.declared.Found.the-variants.{At, Nothing}
 use Rattle.numbers.proofs.Tests.{and-left, and-right, neither-left, neither-right}
+use Rattle.capture.specs.Capture.{headerLength, recordLength, magicOf, isBad, orderOf, isKnown, without, leftAt, capturedAt, originalAt, isCut, isUnreadable, dataAt, orderedAt, recordAt, recordsFrom}
+use Rattle.capture.specs.declared.order.Order.{Order}
+use Rattle.capture.specs.declared.record.Record.{Record}
+use Rattle.capture.proofs.Orders.{known-unless-bad}
+use Rattle.feed.specs.Report.{textRoom, Reported, readIn, reported}
+use Rattle.feed.specs.Report.{refused as unread}
 use Rattle.sender.proofs.Records.{record-facts}
 use Rattle.sender.specs.Protect.{keyDataIn, payloadLimit, soundRecord, Outcome, refusal, sent, numbered, outcomeOf}
 use Rattle.sender.specs.declared.Sender.{Sender}
 use Rattle.format.proofs.Soundness.{sound-facts}
 use Rattle.format.proofs.Suites.{suite-number}
 use Rattle.promises.proofs.Reading.{headerIn, said-by-tests}
-use Rattle.promises.specs.Replies.{Reply, firstOf, testOf, earlier, noneFits, Exactly, isNumbered, distinct, isNothing, icvIn, ledTo, slotIn, rightIn, receiveReplies, installReplies, removeReplies, listingReplies, protectReplies}
+use Rattle.promises.specs.Replies.{Reply, firstOf, testOf, earlier, noneFits, Exactly, isNumbered, distinct, isNothing, icvIn, ledTo, slotIn, rightIn, receiveReplies, installReplies, removeReplies, listingReplies, reportReplies, recordReplies, protectReplies}
 
 -- a choice between two, seen through a function or by the opposite test
 pushed : {A B : Type 0} (f : A → B) (b : Bool) (x y : A) → f (cond b x y) ≡ cond b (f x) (f y)
@@ -190,6 +197,42 @@ listing-reply t i out = by (ltb (length out) outputRoom) (ltb i slotCount && occ
     by false true false = refl
     by false true true = refl
 
+-- ---- captures
+
+pub report-reply : (t file out : List ℕ) → reported t file out .answer .reply ≡ firstOf (reportReplies file out)
+unfolding reported readIn reportReplies
+report-reply t file out =
+    rw (known-unless-bad file) (by (ltb (length out) textRoom) (isBad (magicOf file) file))
+  where
+    refusal : ℕ → Reported
+    refusal n = record { answer = unread n; table = t; out = out }
+
+    by : (short bad : Bool) → cond short (refusal 1) (cond (not bad) (readIn (recordsFrom (orderOf file) file headerLength) t out) (refusal 17)) .answer .reply
+        ≡ cond short 1 (cond bad 17 0)
+    by true bad = refl
+    by false true = refl
+    by false false = refl
+
+-- of a record that begins before the end of a file whose order is known
+pub record-reply : (o : Order) → isKnown o ≡ true → (file : List ℕ) (at : ℕ) → at < length file → recordAt o file at .reply ≡ firstOf (recordReplies o file at)
+unfolding orderedAt dataAt recordReplies
+record-reply o is file at some =
+    rw (is, ne-eqb (leftAt file at) 0 (λ z. omega arith))
+    (by (isCut o file at) (eqb (capturedAt o file at) (originalAt o file at)) (isUnreadable file (at + recordLength) (at + recordLength + capturedAt o file at)))
+  where
+    next : ℕ
+    next = at + recordLength + capturedAt o file at
+
+    arrival : Record
+    arrival = record { reply = 0; source = at + recordLength + 1; message = at + recordLength + 1 + getD file (at + recordLength) 0; next = next }
+
+    by : (cut same unread : Bool) → cond cut (without 18 (length file)) (cond same (cond unread (without 20 next) arrival) (without 19 next)) .reply
+        ≡ cond cut 18 (cond (not same) 19 (cond unread 20 0))
+    by true same unread = refl
+    by false false unread = refl
+    by false true true = refl
+    by false true false = refl
+
 -- ---- protect
 
 module _ (s : Sender) (payload out : List ℕ) where
@@ -236,3 +279,11 @@ listing-exactly t i out = exactly (listingReplies t i out) (listing-reply t i ou
 pub protect-exactly : (s : Sender) (payload out : List ℕ) → Exactly (outcomeOf s payload out .answer .reply) (protectReplies s payload out)
 unfolding protectReplies
 protect-exactly s payload out = exactly (protectReplies s payload out) (protect-reply s payload out) refl
+
+pub report-exactly : (t file out : List ℕ) → Exactly (reported t file out .answer .reply) (reportReplies file out)
+unfolding reportReplies
+report-exactly t file out = exactly (reportReplies file out) (report-reply t file out) refl
+
+pub record-exactly : (o : Order) → isKnown o ≡ true → (file : List ℕ) (at : ℕ) → at < length file → Exactly (recordAt o file at .reply) (recordReplies o file at)
+unfolding recordReplies
+record-exactly o is file at some = exactly (recordReplies o file at) (record-reply o is file at some) refl

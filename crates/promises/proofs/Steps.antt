@@ -95,13 +95,13 @@ module _ {b : Beginning} {i : ℕ} {t : List ℕ} {past : List Told} (now : Stan
 
   module _ (h : Header) (m source out : List ℕ) where
     -- handed out at another slot
-    beside : (j : ℕ) → (j ≡ i → ⊥) → leadsTo t (h .flag) (keyIdBytes h m) source ≡ At j → (n : ℕ) → Meets b i t past m source out apart (handedOut n t j h m out)
+    beside : (j : ℕ) → (j ≡ i → ⊥) → leadsTo t (h .flag) (keyIdBytes h m) source ≡ At j → Meets b i t past m source out apart (handedOut (payloadLength h m) t j h m out)
     unfolding handedOut
-    beside j other l n =
+    beside j other l =
         let long = held .long in
         let small = leads-small t j (h .flag) (keyIdBytes h m) source l in
         let a = match-facts (h .flag) (keyIdBytes h m) source (slotOf t j) (leads-matches t j (h .flag) (keyIdBytes h m) source l) in
-        let next = taken (entryOf (slotOf t j)) (h .seqnum) n in
+        let next = taken (entryOf (slotOf t j)) (h .seqnum) (payloadLength h m) in
         let slot = settledSlot t j next long small in
         let full = length-slot t j next long small in
         let keys = settled-keys (slotOf t j) next (slot-length t j long small) (a .keyid-short) (a .source-short) in
@@ -117,7 +117,7 @@ module _ {b : Beginning} {i : ℕ} {t : List ℕ} {past : List Told} (now : Stan
     elsewhere : (f : Found) → leadsTo t (h .flag) (keyIdBytes h m) source ≡ f → (f ≡ At i → ⊥) → Meets b i t past m source out apart (led f t h m out)
     elsewhere Nothing l other = refusing apart refl m source out noEntry (lit≤ tt)
     elsewhere (At j) l other =
-        of-arrived (Meets b i t past m source out apart) t out j h m (beside j (λ same. other (ap At same)) l) (refusing apart refl m source out)
+        of-arrived (Meets b i t past m source out apart) t out (λ n some small. refusing apart refl m source out n some) j h m (λ unharmed. beside j (λ same. other (ap At same)) l)
 
   -- ---- an arrival that leads to the slot
 

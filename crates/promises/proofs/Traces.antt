@@ -1,7 +1,7 @@
 -- Calls that were made, each as its function's contract allows, are a run: the same answers, tables and outputs.
 -- Assumes nothing.
 use mathlib.Core.Path.{_≡_, refl, ap, _∙_}
-use mathlib.Core.List.{List, [], _∷_}
+use mathlib.Core.List.{List, [], _∷_, _++_}
 use Prim.Native.Nat.{ℕ}
 use Rattle.answers.specs.declared.Answer.{Answer}
 use Rattle.gateway.specs.Receive.{Received}
@@ -33,3 +33,26 @@ trace-run t [] [] p = refl
 trace-run t [] (r ∷ rs) p = absurd p
 trace-run t (c ∷ cs) [] p = absurd p
 trace-run t (c ∷ cs) (r ∷ rs) p = trace-run (r .table) cs rs (p .1) ∙ ap (λ (x : Received). run (x .table) cs) (allowed-called t c r (p .0))
+
+-- ---- further calls
+
+-- what the definitions say of calls is a trace of them
+pub results-trace : (t : List ℕ) (cs : List Call) → Trace t cs (results t cs)
+results-trace t [] = tt
+results-trace t (c ∷ cs) = (called-allowed c, results-trace (called t c .table) cs)
+  where
+    called-allowed : (d : Call) → Allowed t d (called t d)
+    called-allowed (arrival message source out) = record { answers = refl; leaves = refl; writes = refl }
+    called-allowed (install k f) = (record { answers = refl; leaves = refl }, refl)
+    called-allowed (remove i) = (record { answers = refl; leaves = refl }, refl)
+
+-- a trace goes on by another that begins where it ended
+pub trace-append : (t : List ℕ) (cs ds : List Call) (rs qs : List Received) → Trace t cs rs → Trace (lastOf t rs) ds qs → Trace t (cs ++ ds) (rs ++ qs)
+trace-append t [] ds [] qs p q = q
+trace-append t [] ds (r ∷ rs) qs p q = absurd p
+trace-append t (c ∷ cs) ds [] qs p q = absurd p
+trace-append t (c ∷ cs) ds (r ∷ rs) qs p q = (p .0, trace-append (r .table) cs ds rs qs (p .1) q)
+
+pub last-append : (t : List ℕ) (rs qs : List Received) → lastOf t (rs ++ qs) ≡ lastOf (lastOf t rs) qs
+last-append t [] qs = refl
+last-append t (r ∷ rs) qs = last-append (r .table) rs qs

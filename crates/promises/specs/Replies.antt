@@ -1,4 +1,4 @@
--- Each reply's own case (01, "Replies"), and the rule that joins them: the first that fits, in the listed order, is given; where none fits, 0.
+-- Each reply's own case (01, "Replies"; 02, No. 1), and the rule that joins them: the first that fits, in the listed order, is given; where none fits, 0.
 use mathlib.Core.Path.{_≡_}
 use mathlib.Core.Bool.{Bool, true, false, cond, not, _||_, _&&_}
 use mathlib.Core.List.{List, [], _∷_}
@@ -23,6 +23,9 @@ use Rattle.lookup.specs.Lookup.{leadsTo, firstFree}
 use Rattle.slots.specs.Record.{undamaged}
 use Rattle.lookup.specs.declared.Found.{Found}
 use Rattle.lookup.specs.declared.Found.the-variants.{At, Nothing}
+use Rattle.capture.specs.Capture.{recordLength, magicOf, isBad, capturedAt, originalAt, isCut, isUnreadable}
+use Rattle.capture.specs.declared.order.Order.{Order}
+use Rattle.feed.specs.Report.{textRoom}
 use Rattle.sender.specs.Protect.{keyDataIn, soundRecord}
 use Rattle.sender.specs.declared.Sender.{Sender}
 
@@ -158,6 +161,27 @@ listingReplies t i out =
     ∷ reply 16 (not (ltb i slotCount && occupied (slotOf t i)))
     -- record damaged
     ∷ reply 7 (not (undamaged (slotOf t i)))
+    ∷ []
+
+-- ---- captures
+
+unfoldable pub reportReplies : List ℕ → List ℕ → List Reply
+reportReplies file out =
+    -- output buffer under 131,072 bytes
+    reply 1 (ltb (length out) textRoom)
+    -- header bad or file size outside 24 to 65,536
+    ∷ reply 17 (isBad (magicOf file) file)
+    ∷ []
+
+-- a record that begins before the file's end
+unfoldable pub recordReplies : Order → List ℕ → ℕ → List Reply
+recordReplies o file at =
+    -- record header or data runs past the end
+    reply 18 (isCut o file at)
+    -- captured and original length differ
+    ∷ reply 19 (not (eqb (capturedAt o file at) (originalAt o file at)))
+    -- record empty, or identifier runs past the record
+    ∷ reply 20 (isUnreadable file (at + recordLength) (at + recordLength + capturedAt o file at))
     ∷ []
 
 -- ---- protect
