@@ -6,33 +6,19 @@ use libc::STDIN_FILENO;
 use libc::STDOUT_FILENO;
 use slots::layout::TABLE;
 
-const FLAG: u8 = 1;
-
-const SUITE: u8 = 2;
-
-const SIZE: u64 = 4;
-
 // One byte more than a message may have, so that a longer one is seen to be so.
 const ROOM: usize = GREATEST + 1;
 
 fn main() {
     let source = appendix::SOURCE;
     let mut table = [0u8; TABLE];
-    install(&mut table, &source);
+    station::install(&mut table);
     let mut message = [0u8; ROOM];
     let length = io::read_full(STDIN_FILENO, &mut message);
     let reply = receive(&mut table, &message[..length], &source);
-    io::write_all(STDOUT_FILENO, b"answer=");
-    io::print_decimal(STDOUT_FILENO, reply);
-    io::write_all(STDOUT_FILENO, b"\n");
+    station::print_answer(reply);
     let mut lines = [0u8; OUTPUT];
     show(&table, &mut lines);
-}
-
-// Appendix A.2's key data is installed, for its identifier.
-fn install(table: &mut [u8; TABLE], source: &[u8]) {
-    let key = appendix::KEY;
-    entries::install(table, FLAG, b"\x30", source, SUITE, &key, SIZE);
 }
 
 // The reply to a message that came with an identifier.

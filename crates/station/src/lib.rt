@@ -1,0 +1,23 @@
+// What the programs share: 01's entry, and the line of an answer.
+use libc::STDOUT_FILENO;
+use slots::layout::TABLE;
+
+const FLAG: u8 = 1;
+
+const SUITE: u8 = 2;
+
+const SIZE: u64 = 4;
+
+// 01's entry: the key data of appendix A.2, with Size 4.
+pub fn install(table: &mut [u8; TABLE]) {
+    let source = appendix::SOURCE;
+    let key = appendix::KEY;
+    entries::install(table, FLAG, b"\x30", &source, SUITE, &key, SIZE);
+}
+
+// The line `answer=` is printed.
+pub fn print_answer(reply: u64) {
+    io::write_all(STDOUT_FILENO, b"answer=");
+    io::print_decimal(STDOUT_FILENO, reply);
+    io::write_all(STDOUT_FILENO, b"\n");
+}
