@@ -12,8 +12,12 @@
 #define crisp_install ref_install
 #define crisp_receive ref_receive
 #define crisp_protect ref_protect
+#define crisp_capture_order ref_capture_order
+#define crisp_capture_record ref_capture_record
+#define capture_report ref_report
 #else
 #include "cipher.h"
+#include "report.h"
 #endif
 
 /* Appendix A of R 1323565.1.029-2019: what A.1 and A.2 share, and their numbers */
@@ -143,6 +147,70 @@ static int keys_suite_2(uint64_t n)
     return 0;
 }
 
+/* ---- a capture of the greatest size, of A.2's message with rising numbers, read on a table that holds the entry */
+
+static uint8_t capture[CRISP_CAPTURE], text[CAPTURE_TEXT];
+static size_t captured;         /* its length; 818 records of 80 bytes and a header */
+
+static void put(const void *bytes, size_t n)
+{
+    memcpy(capture + captured, bytes, n);
+    captured += n;
+}
+
+static int capture_begins(void)
+{
+    static const uint8_t head[24] = {0xd4, 0xc3, 0xb2, 0xa1, 2, 0, 4, 0, [20] = 147}, entry[17] = {[8] = 64, [12] = 64, [16] = 12};
+    struct crisp_sender s = sender_of(2);
+    put(head, sizeof head);
+    while (captured + 80 <= sizeof capture) {
+        struct crisp_answer a = crisp_protect(&s, data, 37, message, sizeof message);
+        if (a.reply || a.length != 51) return 1;
+        put(entry, sizeof entry), put(source, 12), put(message, 51);
+    }
+    struct crisp_answer a = crisp_install(table, 1, (const uint8_t *)"\x30", 1, source, 12, 2, key_bytes, 32, 4);
+    memcpy(saved, table, sizeof table);
+    return a.reply != 0;
+}
+
+static int report_capture(uint64_t n)
+{
+    if (capture_begins()) return 1;
+    while (n--) {
+        memcpy(table, saved, sizeof table);
+        struct capture_summary s = capture_report(table, capture, captured, text, sizeof text);
+        if (s.reply || s.records != 818 || s.cut) return 1;
+    }
+    return 0;
+}
+
+/* the same as a loop in C, without lines */
+static int loop_capture(uint64_t n)
+{
+    if (capture_begins()) return 1;
+    while (n--) {
+        memcpy(table, saved, sizeof table);
+        uint64_t order = crisp_capture_order(capture, captured);
+        struct crisp_record r;
+        for (size_t at = CRISP_CAPTURE_HEADER; r = crisp_capture_record(capture, captured, order, at), r.reply != CRISP_END; at = r.next)
+            if (r.reply || crisp_receive(table, capture + r.message, r.next - r.message, capture + r.source, r.message - r.source, out, sizeof out).reply) return 1;
+    }
+    return 0;
+}
+
+/* its records alone */
+static int walk_capture(uint64_t n)
+{
+    if (capture_begins()) return 1;
+    while (n--) {
+        uint64_t order = crisp_capture_order(capture, captured), x = 0;
+        struct crisp_record r;
+        for (size_t at = CRISP_CAPTURE_HEADER; r = crisp_capture_record(capture, captured, order, at), r.reply != CRISP_END; at = r.next) x += r.message;
+        sink = x;
+    }
+    return 0;
+}
+
 static int receive_a_1(uint64_t n) { return receives(1, 37, 0, -1, n, 0); }
 static int receive_a_2(uint64_t n) { return receives(2, 37, 0, -1, n, 0); }
 static int receive_2048_1(uint64_t n) { return receives(1, 2034, 0, -1, n, 0); }
@@ -171,6 +239,7 @@ static const struct {
     {"receive-A.1-slot-15", receive_slot_15}, {"refuse-version", refuse_version}, {"refuse-no-entry", refuse_no_entry},
     {"refuse-no-entry-16-slots", refuse_no_entry_16}, {"refuse-icv", refuse_icv}, {"protect-A.1", protect_a_1}, {"protect-A.2", protect_a_2},
     {"protect-2048-suite-1", protect_2048_1}, {"protect-2048-suite-2", protect_2048_2}, {"forget", forget},
+    {"capture-report", report_capture}, {"capture-loop", loop_capture}, {"capture-records", walk_capture},
 };
 
 int main(int argc, char **argv)

@@ -1,10 +1,12 @@
-/* stack.c: the deepest stack of each function of the library, in bytes from the call's return address down. All must be within CRISP_STACK.
+/* stack.c: the deepest stack of each function of the library, in bytes from the call's return address down. All must be within CRISP_STACK; a report of
+ * a capture, which has a payload's buffer in it, within 4,096 bytes.
  *
  * A call runs on a stack of its own. Two depths are taken and the larger is printed: down to the lowest byte written (the stack is filled with a value
  * before, and with another value in a second run), and down to the lowest stack pointer (the call is single-stepped). x86-64, Linux. */
 #define _GNU_SOURCE
 #include "crisp.h"
 #include "on_stack.h"
+#include "report.h"
 #include <signal.h>
 #include <stdio.h>
 #include <string.h>
@@ -68,19 +70,32 @@ static void removal(void)
     answer = crisp_remove(table, 0);
 }
 
+/* a capture with that message */
+static uint8_t capture[24 + 16 + 33 + sizeof message] = {0xd4, 0xc3, 0xb2, 0xa1, 2, 0, 4, 0, [20] = 147, [32] = 0x21, 8, [36] = 0x21, 8, [40] = 32}, text[CAPTURE_TEXT];
+static void order(void) { answer.reply = crisp_capture_order(capture, sizeof capture) - 2; }
+static void record(void) { answer.reply = crisp_capture_record(capture, sizeof capture, 2, CRISP_CAPTURE_HEADER).reply; }
+static void report(void)
+{
+    memcpy(table, before, sizeof table);
+    memcpy(capture + 73, message, sizeof message);
+    answer.reply = capture_report(table, capture, sizeof capture, text, sizeof text).length != 3841;
+}
+
 /* what a caller may have pushed for the call, above the return address */
 enum { PUSHED = 64 };
 static int bad;
 
-static void gauge(const char *name, void (*f)(void))
+static void gauge_within(size_t limit, const char *name, void (*f)(void))
 {
     size_t depth = written(f, 0x5a), second = written(f, 0xa5), pointer = reserved(f);
     if (second > depth) depth = second;
     if (pointer > depth) depth = pointer;
-    int wrong = answer.reply != 0 || depth + PUSHED > CRISP_STACK;
+    int wrong = answer.reply != 0 || depth + PUSHED > limit;
     printf("%-24s %6zu%s\n", name, depth, wrong ? "   TOO DEEP" : "");
     bad |= wrong;
 }
+
+static void gauge(const char *name, void (*f)(void)) { gauge_within(CRISP_STACK, name, f); }
 
 int main(void)
 {
@@ -94,6 +109,9 @@ int main(void)
         snprintf(name, sizeof name, "receive, suite %d", suite), gauge(name, receive);
         snprintf(name, sizeof name, "listing, suite %d", suite), gauge(name, listing);
         snprintf(name, sizeof name, "remove, suite %d", suite), gauge(name, removal);
+        snprintf(name, sizeof name, "report, suite %d", suite), gauge_within(4096, name, report);
     }
+    gauge("capture order", order);
+    gauge("capture record", record);
     return bad;
 }

@@ -29,7 +29,7 @@ extern "C" {
 
 /* The interface's version, 100 times the major one plus the minor one: the first is raised where a call of before has to be written anew or means
  * something else, the second where something was added. */
-#define CRISP_VERSION 100
+#define CRISP_VERSION 101
 
 /* The version of the two layouts, the table's and the record's, raised where either moves. Keep it beside a saved table or record: another
  * layout's bytes are read as something else. */
@@ -56,6 +56,10 @@ extern "C" {
 /* The largest window. */
 #define CRISP_SIZE 256
 
+/* Bytes of the longest capture file, and of its header, behind which its first record is. */
+#define CRISP_CAPTURE 65536
+#define CRISP_CAPTURE_HEADER 24
+
 /* A pointer to no bytes, which is not null: for a source or a payload of length 0. */
 #define CRISP_NOTHING ((const uint8_t *)"")
 
@@ -81,7 +85,11 @@ enum {
     CRISP_UNSOUND = 13,         /* key data or window size unsound */
     CRISP_TWIN = 14,            /* an occupied slot has the same flag and KeyId and, for flag 1, source */
     CRISP_FULL = 15,            /* no free slot */
-    CRISP_NO_SLOT = 16          /* slot over 15, or free */
+    CRISP_NO_SLOT = 16,         /* slot over 15, or free */
+    CRISP_BAD_CAPTURE = 17,     /* a capture's header is bad, or its size is not 24 to 65,536 bytes */
+    CRISP_CUT_SHORT = 18,       /* a record's header or data runs past the capture's end */
+    CRISP_LENGTHS_DIFFER = 19,  /* a record's captured and original length differ */
+    CRISP_UNREADABLE = 20       /* a record is empty, or its identifier runs past it */
 };
 
 /* What every function answers. */
@@ -110,7 +118,19 @@ struct crisp_sender {
     uint64_t current;
 };
 
-/* The two structs are laid out as the library has them; a #pragma pack in force here would change that. */
+/* The record at a place of a capture file. With reply 0 its source is the bytes from `source` up to `message`, and its message those from `message`
+ * up to `next`, where the next record begins; with another reply both are empty. */
+struct crisp_record {
+    uint64_t reply;             /* 0, 17, 18, 19, 20 or CRISP_END */
+    size_t source;
+    size_t message;
+    size_t next;                /* the file's end with 17, 18 and CRISP_END */
+};
+
+/* In place of a reply: nothing is left of the file. */
+#define CRISP_END 255
+
+/* The structs are laid out as the library has them; a #pragma pack in force here would change that. */
 #if defined(__cplusplus) && __cplusplus >= 201103L
 #define CRISP_CHECK(what, holds) static_assert(holds, #what)
 #elif defined(__STDC_VERSION__) && __STDC_VERSION__ >= 201112L
@@ -126,6 +146,9 @@ CRISP_CHECK(crisp_sender_is_laid_out_as_in_the_library,
             && offsetof(struct crisp_sender, source) == 144 && offsetof(struct crisp_sender, source_len) == 176
             && offsetof(struct crisp_sender, suite) == 184 && offsetof(struct crisp_sender, key) == 185
             && offsetof(struct crisp_sender, current) == 224 && sizeof(struct crisp_sender) == 232);
+CRISP_CHECK(crisp_record_is_laid_out_as_in_the_library,
+            offsetof(struct crisp_record, reply) == 0 && offsetof(struct crisp_record, source) == 8 && offsetof(struct crisp_record, message) == 16
+            && offsetof(struct crisp_record, next) == 24 && sizeof(struct crisp_record) == 32);
 
 /* What a compiler can tell a caller: the answer was ignored, a pointer is null, a buffer is shorter than its length. */
 #if defined(__GNUC__)
@@ -185,6 +208,29 @@ struct crisp_answer crisp_protect(struct crisp_sender *sender, const uint8_t *pa
  * (slot over 15, or free) and 7 (record damaged), in that order. Does not touch the table. */
 CRISP_CALL CRISP_WRITES(3, 4)
 struct crisp_answer crisp_listing(const uint8_t table[CRISP_AT_LEAST CRISP_TABLE], size_t slot, uint8_t *out, size_t out_len);
+
+/* Captures: classic pcap of up to CRISP_CAPTURE bytes, microsecond magic a1b2c3d4 in either byte order, version 2.4, link type 147. A record's data is
+ * one byte with the length of the source, the source, and the message. The two functions read a file that is in memory, whatever its bytes, and
+ * change nothing. A gateway hands each record with reply 0 to crisp_receive, in the file's order, and passes over those with 19 and 20:
+ *
+ *     uint64_t order = crisp_capture_order(file, length);
+ *     struct crisp_record r;
+ *     if (order == CRISP_BAD_CAPTURE) return refused;
+ *     for (size_t at = CRISP_CAPTURE_HEADER; r = crisp_capture_record(file, length, order, at), r.reply != CRISP_END; at = r.next)
+ *         if (r.reply == CRISP_DONE) arrives(file + r.message, r.next - r.message, file + r.source, r.message - r.source);
+ *
+ * Where a record runs past the end, its reply 18 is the last before CRISP_END. What was received before it stands. A file that is read once more
+ * hands out nothing while its entries stand, so restored archives need no care. examples/capture.c among the sources reads a file so.
+ *
+ * The first answers the order of the file's numbers, 1 (highest byte first) or 2 (lowest), or 17 (header bad, or size not 24 to 65,536 bytes). Hand
+ * the order to the second as it came. */
+CRISP_CALL CRISP_READS(1, 2)
+uint64_t crisp_capture_order(const uint8_t *file, size_t file_len);
+
+/* The record at a place, the first of which is CRISP_CAPTURE_HEADER and the others each record's next. Replies: 17 (order neither 1 nor 2), CRISP_END (nothing is left
+ * at the place, or it lies beyond the file), 18, 19, 20, in that order, else 0. Any place is safe to hand in. */
+CRISP_CALL CRISP_READS(1, 2)
+struct crisp_record crisp_capture_record(const uint8_t *file, size_t file_len, uint64_t order, size_t at);
 
 /* Keys. Tables and records hold keys in clear, and so do their saved copies: let no other account read the files (mode 0600), nor their backups.
  * crisp_receive and crisp_protect leave the base key and parts of the derived keys in the dead stack below their caller, and bytes of a key or of

@@ -21,6 +21,7 @@ static uint8_t message[CRISP_OUT], out[CRISP_OUT];
 int main(void)
 {
     struct crisp_answer a;
+    struct crisp_record r;
     sender.keyid[0] = 5;
     sender.keyid_len = 1;
     sender.source_len = 4;
@@ -34,6 +35,11 @@ int main(void)
     if (a.reply != CRISP_DONE || a.length != 0 || a.seqnum != 1) return 3;
     a = crisp_listing(table, a.slot, out, sizeof out);
     if (a.reply != CRISP_DONE) return 4;
+    if (crisp_capture_order(message, sizeof message) != CRISP_BAD_CAPTURE) return 6;
+    r = crisp_capture_record(message, sizeof message, CRISP_BAD_CAPTURE, CRISP_CAPTURE_HEADER);
+    if (r.reply != CRISP_BAD_CAPTURE || r.source != r.next || r.message != r.next || r.next != sizeof message) return 7;
+    r = crisp_capture_record(message, sizeof message, 1, CRISP_CAPTURE);
+    if (r.reply != CRISP_END) return 8;
 #ifdef IGNORED
     crisp_remove(table, a.slot);
 #else

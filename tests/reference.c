@@ -328,3 +328,73 @@ answer ref_listing(const u8 *table, size_t slot, u8 *out, size_t out_len)
     memcpy(out, text, (size_t)(p - text));
     return done((size_t)(p - text), slot, 0);
 }
+
+/* ---- captures: document 02, No. 1 */
+
+/* a number of n bytes in the file's order */
+static u64 ordered(const u8 *p, int n, u64 order)
+{
+    u64 x = 0;
+    for (int i = 0; i < n; i++) x = x << 8 | p[order == 1 ? i : n - 1 - i];
+    return x;
+}
+
+u64 ref_capture_order(const u8 *file, size_t n)
+{
+    if (n < 24 || n > 65536) return 17;
+    for (u64 order = 1; order <= 2; order++)
+        if (ordered(file, 4, order) == 0xa1b2c3d4 && ordered(file + 4, 2, order) == 2 && ordered(file + 6, 2, order) == 4
+            && ordered(file + 20, 4, order) == 147)
+            return order;
+    return 17;
+}
+
+static struct crisp_record nothing(u64 reply, size_t next) { return (struct crisp_record){reply, next, next, next}; }
+
+struct crisp_record ref_capture_record(const u8 *file, size_t n, u64 order, size_t at)
+{
+    if (order != 1 && order != 2) return nothing(17, n);
+    if (at >= n) return nothing(CRISP_END, n);
+    if (n - at < 16) return nothing(18, n);
+    u64 captured = ordered(file + at + 8, 4, order), original = ordered(file + at + 12, 4, order);
+    if (captured > n - at - 16) return nothing(18, n);
+    size_t next = at + 16 + captured;
+    if (captured != original) return nothing(19, next);
+    if (captured == 0 || (size_t)file[at + 16] + 1 > captured) return nothing(20, next);
+    return (struct crisp_record){0, at + 17, at + 17 + file[at + 16], next};
+}
+
+static u8 *decimal(u8 *p, u64 x)
+{
+    if (x > 9) p = decimal(p, x / 10);
+    *p++ = (u8)('0' + x % 10);
+    return p;
+}
+
+static u8 *word(u8 *p, const char *name)
+{
+    while (*name) *p++ = (u8)*name++;
+    return p;
+}
+
+struct capture_summary ref_report(u8 *table, const u8 *file, size_t n, u8 *out, size_t out_len)
+{
+    struct capture_summary s = {0, 0, 0, false};
+    if (out_len < 131072) { s.reply = 1; return s; }
+    u64 order = ref_capture_order(file, n);
+    if (order == 17) { s.reply = 17; return s; }
+    u8 *p = out;
+    for (size_t at = 24; at < n;) {
+        u8 payload[2048];
+        struct crisp_record r = ref_capture_record(file, n, order, at);
+        answer a = r.reply ? refuse(r.reply) : ref_receive(table, file + r.message, r.next - r.message, file + r.source, r.message - r.source, payload, sizeof payload);
+        p = decimal(word(p, "record="), ++s.records);
+        p = word(decimal(word(p, " answer="), a.reply), " payload=");
+        for (size_t i = 0; i < a.length; i++) *p++ = (u8)"0123456789abcdef"[payload[i] >> 4], *p++ = (u8)"0123456789abcdef"[payload[i] & 15];
+        *p++ = '\n';
+        s.cut = r.reply == 18;
+        at = r.next;
+    }
+    s.length = (size_t)(p - out);
+    return s;
+}

@@ -3,6 +3,7 @@
 #ifndef REFERENCE_H
 #define REFERENCE_H
 #include "crisp.h"
+#include "report.h"
 
 /* Magma and its modes: a key is eight words. */
 void ref_key(const uint8_t bytes[32], uint32_t key[8]);
@@ -20,4 +21,9 @@ struct crisp_answer ref_receive(uint8_t *table, const uint8_t *message, size_t m
                                 uint8_t *out, size_t out_len);
 struct crisp_answer ref_protect(struct crisp_sender *sender, const uint8_t *payload, size_t payload_len, uint8_t *out, size_t out_len);
 struct crisp_answer ref_listing(const uint8_t *table, size_t slot, uint8_t *out, size_t out_len);
+
+/* Captures. */
+uint64_t ref_capture_order(const uint8_t *file, size_t file_len);
+struct crisp_record ref_capture_record(const uint8_t *file, size_t file_len, uint64_t order, size_t at);
+struct capture_summary ref_report(uint8_t *table, const uint8_t *file, size_t file_len, uint8_t *out, size_t out_len);
 #endif

@@ -29,6 +29,8 @@ BUILD=target/c
 LIB=$BUILD/prefix/lib
 mkdir -p "$BUILD"
 ./install "$BUILD/prefix" || exit 2
-rt staticlib cipher_c >"$BUILD/cipher_c.log" 2>&1 || { tail -n 5 "$BUILD/cipher_c.log"; echo "cipher_c is not proved"; exit 2; }
+for crate in cipher_c report_c; do
+    rt staticlib $crate >"$BUILD/$crate.log" 2>&1 || { tail -n 5 "$BUILD/$crate.log"; echo "$crate is not proved"; exit 2; }
+done
 CRISP=$(PKG_CONFIG_LIBDIR=$LIB/pkgconfig pkg-config --cflags --libs crisp) || exit 2
 BARE=$(PKG_CONFIG_LIBDIR=$LIB/pkgconfig pkg-config --cflags --libs crisp-bare) || exit 2

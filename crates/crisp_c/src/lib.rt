@@ -1,10 +1,17 @@
-// The gateway and the sender for C: five functions over the proved ones, with the same contracts. include/crisp.h declares and documents them.
+// The gateway, the sender and the records of captures for C: seven functions over the proved ones, with the same contracts. include/crisp.h declares
+// and documents them.
+ghost use mathlib.Core.Path.{_≡_};
 ghost use Rattle.format.specs.KeyData.{handedIn};
 ghost use Rattle.entries.specs.Install.{IsLeft, installed, removed};
 ghost use Rattle.listing.specs.Listing.{IsListed, listed};
 ghost use Rattle.gateway.specs.Receive.{IsReceived, received};
 ghost use Rattle.sender.specs.Protect.{Protects};
+ghost use Rattle.capture.specs.Capture.{orderOf, orderNumber, orderNumbered, recordAt};
 use answers::Answer;
+use capture::order;
+use capture::order::Order;
+use capture::record;
+use capture::record::Record;
 use sender::Sender;
 use slots::layout::TABLE;
 
@@ -61,4 +68,21 @@ pub extern "C" fn crisp_protect(sender: &mut Sender, payload: &[u8], out: &mut [
     let done = sender::protect_by_value(*sender, payload, out);
     sender.current = done.current;
     done.answer
+}
+
+// As `capture::order::order_of`, by its number.
+#[no_mangle]
+pub extern "C" fn crisp_capture_order(file: &[u8]) -> u64
+    ensures { λ r. ⌜ r ≡ orderNumber (orderOf (now (file .entry))) ⌝ }
+{
+    let order = order::order_of(file);
+    order.number()
+}
+
+// As `capture::record::record_at`, with the order by its number.
+#[no_mangle]
+pub extern "C" fn crisp_capture_record(file: &[u8], order: u64, at: usize) -> Record
+    ensures { λ r. ⌜ r ≡ recordAt (orderNumbered order) (now (file .entry)) at ⌝ }
+{
+    record::record_at(file, Order::numbered(order), at)
 }
