@@ -227,8 +227,8 @@ struct crisp_answer crisp_listing(const uint8_t table[CRISP_AT_LEAST CRISP_TABLE
 CRISP_CALL CRISP_READS(1, 2)
 uint64_t crisp_capture_order(const uint8_t *file, size_t file_len);
 
-/* The record at a place, the first of which is CRISP_CAPTURE_HEADER and the others each record's next. Replies: 17 (order neither 1 nor 2), CRISP_END (nothing is left
- * at the place, or it lies beyond the file), 18, 19, 20, in that order, else 0. Any place is safe to hand in. */
+/* The record at a place; the first place is CRISP_CAPTURE_HEADER, the others are each record's next. Replies: 17 (order neither 1 nor 2), CRISP_END
+ * (nothing is left at the place, or it lies beyond the file), 18, 19, 20, in that order, else 0. Any place is safe to hand in. */
 CRISP_CALL CRISP_READS(1, 2)
 struct crisp_record crisp_capture_record(const uint8_t *file, size_t file_len, uint64_t order, size_t at);
 
