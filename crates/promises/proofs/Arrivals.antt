@@ -227,23 +227,24 @@ module _ (t : List ℕ) (long : length t ≡ tableLength) where
 
 -- ---- the same arrivals again
 
--- cs came after pre, and now come again after pre
-again : (t : List ℕ) → length t ≡ tableLength → (pre cs : List Call) → AllArrive pre → AllArrive cs → (u : List ℕ) → u ≡ run (run (run t pre) cs) pre
+-- cs came after pre, and now come again, after others
+again : (t : List ℕ) → length t ≡ tableLength → (pre cs others : List Call) → AllArrive pre → AllArrive cs → AllArrive others → (u : List ℕ) → u ≡ run (run (run t pre) cs) others
     → NothingHanded (results u cs)
-again t long pre [] before all u e = tt
-again t long pre (c ∷ cs) before all u e =
-    let first = run t pre in (
+again t long pre [] others before all between u e = tt
+again t long pre (c ∷ cs) others before all between u e =
+    let first = run t pre in
+    let one : AllArrive (c ∷ []) = (all .0, tt) in (
       λ done.
-          refused-again first (arrivals-unmoved t long pre before .long) c (all .0) (cs ++ pre) (arrivals-append cs pre (all .1) before)
-          (subst (λ (x : List ℕ). called x c .answer .reply ≡ 0) (e ∙ sym (run-append (after first c) cs pre)) done),
-      again t long (pre ++ (c ∷ [])) cs (arrivals-append pre (c ∷ []) before (all .0, tt)) (all .1) (after u c)
-          (ap (λ (x : List ℕ). after x c) e ∙ sym (run-append (run first (c ∷ cs)) pre (c ∷ []))
-          ∙ ap (λ (x : List ℕ). run (run x cs) (pre ++ (c ∷ []))) (sym (run-append t pre (c ∷ [])))),
+          refused-again first (arrivals-unmoved t long pre before .long) c (all .0) (cs ++ others) (arrivals-append cs others (all .1) between)
+          (subst (λ (x : List ℕ). called x c .answer .reply ≡ 0) (e ∙ sym (run-append (after first c) cs others)) done),
+      again t long (pre ++ (c ∷ [])) cs (others ++ (c ∷ [])) (arrivals-append pre (c ∷ []) before one) (all .1) (arrivals-append others (c ∷ []) between one) (after u c)
+          (ap (λ (x : List ℕ). after x c) e ∙ sym (run-append (run first (c ∷ cs)) others (c ∷ []))
+          ∙ ap (λ (x : List ℕ). run (run x cs) (others ++ (c ∷ []))) (sym (run-append t pre (c ∷ [])))),
     )
 
--- Arrivals that come a second time are all refused,
-pub nothing-again : (t : List ℕ) → length t ≡ tableLength → (cs : List Call) → AllArrive cs → NothingHanded (results (run t cs) cs)
-nothing-again t long cs all = again t long [] cs tt all (run t cs) refl
+-- Arrivals that come a second time, whatever arrivals came between, are all refused,
+pub nothing-again : (t : List ℕ) → length t ≡ tableLength → (cs others : List Call) → AllArrive cs → AllArrive others → NothingHanded (results (run (run t cs) others) cs)
+nothing-again t long cs others all between = again t long [] cs others tt all between (run (run t cs) others) refl
 
 -- and where nothing is handed out nothing moves.
 pub nothing-moves : (t : List ℕ) (cs : List Call) → AllArrive cs → NothingHanded (results t cs) → run t cs ≡ t

@@ -113,14 +113,16 @@ history-captured {b} {i} {t} begins file out bytes room =
     (rw (reported-run t file out room) (history begins (callsIn file) goes), all-handed begins (callsIn file) goes)
 
 module _ (t : List ℕ) (long : length t ≡ tableLength) where
-  -- The same file read a second time hands out nothing, on any table: no line of it has a payload, and the table is left as it was.
-  pub read-twice : (file out : List ℕ) → Bytes file → textRoom ≤ length out → let once = reported t file out .table in
-      NothingHanded (results once (callsIn file)) × AllRefused once (recordsOf file) × ((other : List ℕ) → textRoom ≤ length other → reported once file other .table ≡ once)
-  read-twice file out bytes room =
+  -- The same file read a second time, whatever arrivals came between, hands out nothing, on any table: no line of it has a payload, and the
+  -- table is left as it was found.
+  pub read-twice : (file out : List ℕ) → Bytes file → textRoom ≤ length out → (others : List Call) → AllArrive others → let then = run (reported t file out .table) others in
+      NothingHanded (results then (callsIn file)) × AllRefused then (recordsOf file) × ((other : List ℕ) → textRoom ≤ length other → reported then file other .table ≡ then)
+  read-twice file out bytes room others between =
       let all = calls-arrive file bytes in
-      let none = nothing-again t long (callsIn file) all in
+      let found = run (run t (callsIn file)) others in
+      let none = nothing-again t long (callsIn file) others all between in
       rw (reported-run t file out room)
-      (none, lines-refused (run t (callsIn file)) (recordsOf file) none, λ other enough. reported-run (run t (callsIn file)) file other enough ∙ nothing-moves (run t (callsIn file)) (callsIn file) all none)
+      (none, lines-refused found (recordsOf file) none, λ other enough. reported-run found file other enough ∙ nothing-moves found (callsIn file) all none)
 
   -- Two files, read one after the other, are the calls of both, and these book no number twice. That holds of any two files, so in either order.
   pub two-files : (first second out other : List ℕ) → Bytes first → Bytes second → textRoom ≤ length out → textRoom ≤ length other
