@@ -219,8 +219,9 @@ struct crisp_answer crisp_listing(const uint8_t table[CRISP_AT_LEAST CRISP_TABLE
  *     for (size_t at = CRISP_CAPTURE_HEADER; r = crisp_capture_record(file, length, order, at), r.reply != CRISP_END; at = r.next)
  *         if (r.reply == CRISP_DONE) arrives(file + r.message, r.next - r.message, file + r.source, r.message - r.source);
  *
- * Where a record runs past the end, its reply 18 is the last before CRISP_END. What was received before it stands. A file that is read once more
- * hands out nothing while its entries stand, so restored archives need no care. examples/capture.c among the sources reads a file so.
+ * Where a record runs past the end, its reply 18 is the last before CRISP_END. What was received before it stands. A file that is read once more,
+ * whatever other files came in between, hands out nothing, unless entries were installed or removed since. examples/capture.c among the sources
+ * reads a file so.
  *
  * The first answers the order of the file's numbers, 1 (highest byte first) or 2 (lowest), or 17 (header bad, or size not 24 to 65,536 bytes). Hand
  * the order to the second as it came. */

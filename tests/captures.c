@@ -201,6 +201,17 @@ static void back(void)
     memcpy(ref_table, saved, CRISP_TABLE);
 }
 
+/* whether a byte of the file is of its header, of a record's, or tells the length of an identifier */
+static int of_a_header(size_t n, uint64_t in_order, size_t byte)
+{
+    size_t at = CRISP_CAPTURE_HEADER;
+    while (at <= byte && at < n) {
+        if (byte < at + 17) return 1;
+        at = ref_capture_record(whole, n, in_order, at).next;
+    }
+    return byte < CRISP_CAPTURE_HEADER;
+}
+
 /* a short file cut at every length; every byte of its headers with every value; outputs around the least */
 static void sweep(uint64_t in_order)
 {
@@ -208,11 +219,11 @@ static void sweep(uint64_t in_order)
     memcpy(saved, table, CRISP_TABLE);
     begin(in_order);
     for (int i = 0; i < 3; i++) random_record();
-    size_t n = length, first = 24, second = ref_capture_record(file, n, in_order, 24).next;
+    size_t n = length;
     memcpy(whole, file, n);
     for (size_t cut = 0; cut <= n; cut++) back(), both_ways(cut);
-    for (size_t at = 0; at < second + 17 && at < n; at++) {
-        if (at >= first + 17 && at < second) continue;
+    for (size_t at = 0; at < n; at++) {
+        if (!of_a_header(n, in_order, at)) continue;
         for (int x = 0; x < 256; x++) {
             file[at] = (uint8_t)x;
             back(), both_ways(n);
