@@ -3,7 +3,7 @@
 use mathlib.Core.Path.{_≡_, sym, ap, _∙_}
 use mathlib.Core.Bool.{true}
 use mathlib.Core.List.{List, [], _∷_, _++_, map, append-assoc, append-nil}
-use Prim.Native.Nat.{ℕ, _-_, _^_, _≤_, _<_}
+use Prim.Native.Nat.{ℕ, _-_, _≤_, _<_}
 use native.Mathlib.Omega.{arith}
 use lib.Dec.{lit<, lit≤}
 use lib.ListN.{length, getD, replicate, length-append, length-replicate}
@@ -15,10 +15,10 @@ use Rattle.format.proofs.Soundness.{Sound, sound-test, key-data-is}
 use Rattle.window.specs.Entry.{freshEntry}
 use Rattle.window.specs.Window.{soundFrame}
 use Rattle.window.proofs.Entries.{entry-test, fresh-entry-undamaged}
-use Rattle.window.proofs.Undamaged.{frame-most}
-use Rattle.slots.specs.Table.{flagOf, csOf, keyIdLengthOf, keyIdOf, sourceLengthOf, sourceOf, keyOf, entryOf, slotLength, occupiedAt, startAt, highestAt, marksAt, acceptedAt, bytesAt, keyIdRoom, sourceRoom, keyDataOf}
+use Rattle.window.proofs.Undamaged.{SoundFrame, frame-facts}
+use Rattle.slots.specs.Table.{flagOf, csOf, keyIdLengthOf, keyIdOf, sourceLengthOf, sourceOf, keyOf, entryOf, slotLength, occupiedAt, highestAt, marksAt, acceptedAt, bytesAt, keyIdRoom, sourceRoom, keyDataOf}
 use Rattle.slots.specs.Record.{undamaged}
-use Rattle.entries.specs.Fresh.{padded, prefixed, headOf, freshSlot}
+use Rattle.entries.specs.Fresh.{padded, prefixed, headOf, frameBytes, freshSlot}
 use Rattle.entries.proofs.Bounds.{keyid-most, suite-byte}
 use Rattle.slots.proofs.Damage.{undamaged-by-entry}
 use Rattle.lookup.specs.Lookup.{matches}
@@ -28,6 +28,9 @@ use Rattle.entries.proofs.Stretches.{length-padded}
 
 pub length-head : (flag suite : ℕ) → length (headOf flag suite) ≡ 4
 length-head flag suite = simp (length-append, length-bytes)
+
+pub length-frame : (f : Frame) → length (frameBytes f) ≡ 16
+length-frame f = simp (length-append, length-bytes)
 
 -- the parts of a slot, but for window and totals
 pub record Parts (k : KeyData) (s : List ℕ) : Type 0 where
@@ -47,9 +50,9 @@ parts-keydata p = key-data-is (p .flag-is) (p .keyid-is) (p .source-is) (p .cs-i
 module _ {k : KeyData} (sound : Sound k) (b : getD (k .keyId) 0 0 < 256) (f : Frame) where
   -- all but the zeros at the end
   abbrev filled : List ℕ
-  filled = headOf (k .flag) (k .suite) ++ prefixed keyIdRoom (k .keyId) ++ prefixed sourceRoom (k .source) ++ k .key ++ bytesOf 8 (f .size)
+  filled = headOf (k .flag) (k .suite) ++ prefixed keyIdRoom (k .keyId) ++ prefixed sourceRoom (k .source) ++ k .key ++ frameBytes f
 
-  length-filled : length filled ≡ startAt
+  length-filled : length filled ≡ highestAt
   length-filled =
       simp (length-append, length-bytes, length-replicate, sound .key-length) (omega (arith, keyid-most sound b, sound .source-most))
 
@@ -62,10 +65,10 @@ module _ {k : KeyData} (sound : Sound k) (b : getD (k .keyId) 0 0 < 256) (f : Fr
   stretches =
       bytesOf 1 1 ∷ bytesOf 1 (k .flag) ∷ bytesOf 1 (k .suite) ∷ bytesOf 1 0
       ∷ bytesOf 1 (length (k .keyId)) ∷ padded keyIdRoom (k .keyId) ∷ bytesOf 1 (length (k .source)) ∷ padded sourceRoom (k .source)
-      ∷ k .key ∷ bytesOf 8 (f .size) ∷ replicate (slotLength - startAt) 0 ∷ []
+      ∷ k .key ∷ bytesOf 8 (f .size) ∷ bytesOf 8 (f .start) ∷ replicate (slotLength - highestAt) 0 ∷ []
 
   abbrev lengths : List ℕ
-  lengths = 1 ∷ 1 ∷ 1 ∷ 1 ∷ 1 ∷ keyIdRoom ∷ 1 ∷ sourceRoom ∷ 32 ∷ 8 ∷ (slotLength - startAt) ∷ []
+  lengths = 1 ∷ 1 ∷ 1 ∷ 1 ∷ 1 ∷ keyIdRoom ∷ 1 ∷ sourceRoom ∷ 32 ∷ 8 ∷ 8 ∷ (slotLength - highestAt) ∷ []
 
   in-stretches : freshSlot k f ≡ joined stretches
   unfolding freshSlot
@@ -93,14 +96,15 @@ module _ {k : KeyData} (sound : Sound k) (b : getD (k .keyId) 0 0 < 256) (f : Fr
         key-is = rw (sound .key-length) at (piece (there 8));
       }
 
-  pub fresh-entry : f .size < 2 ^ 64 → entryOf (freshSlot k f) ≡ freshEntry f
-  fresh-entry h =
+  pub fresh-entry : SoundFrame f → entryOf (freshSlot k f) ≡ freshEntry f
+  fresh-entry s =
       rw (
-        number 8 (f .size) (there 9) h,
-        zeros (slotLength - startAt) (there 10) (highestAt - startAt) 8 (lit≤ tt),
-        zeros (slotLength - startAt) (there 10) (marksAt - startAt) 32 (lit≤ tt),
-        zeros (slotLength - startAt) (there 10) (acceptedAt - startAt) 8 (lit≤ tt),
-        zeros (slotLength - startAt) (there 10) (bytesAt - startAt) 8 (lit≤ tt),
+        number 8 (f .size) (there 9) (omega (arith, s .size-high)),
+        number 8 (f .start) (there 10) (omega (arith, s .start-high)),
+        zeros (slotLength - highestAt) (there 11) 0 8 (lit≤ tt),
+        zeros (slotLength - highestAt) (there 11) (marksAt - highestAt) 32 (lit≤ tt),
+        zeros (slotLength - highestAt) (there 11) (acceptedAt - highestAt) 8 (lit≤ tt),
+        zeros (slotLength - highestAt) (there 11) (bytesAt - highestAt) 8 (lit≤ tt),
       )
 
   -- it holds the key data, matches it, and is undamaged
@@ -124,4 +128,4 @@ module _ {k : KeyData} (sound : Sound k) (b : getD (k .keyId) 0 0 < 256) (f : Fr
   fresh-undamaged framed =
       let s = freshSlot k f in
       sym (undamaged-by-entry s (ap soundOf fresh-keydata ∙ sound-test k sound))
-      ∙ entry-test (entryOf s) (rw (fresh-entry (omega (arith, frame-most f framed))) (fresh-entry-undamaged f framed))
+      ∙ entry-test (entryOf s) (rw (fresh-entry (frame-facts f framed)) (fresh-entry-undamaged f framed))

@@ -1,4 +1,5 @@
--- A fresh entry's slot (01, "Replies": "so do an installed entry's places past its KeyId and identifier" hold zeros only; "starts fresh").
+-- A fresh entry's slot (01, "Replies": "so do an installed entry's places past its KeyId and identifier" hold zeros only; "starts fresh"; 02, No. 2:
+-- "Install must take a start number, .. and the entry keeps it").
 use mathlib.Core.List.{List, _++_}
 use Prim.Native.Nat.{ℕ, _-_}
 use lib.ListN.{length, replicate}
@@ -19,8 +20,12 @@ prefixed room bytes = bytesOf 1 (length bytes) ++ padded room bytes
 abbrev pub headOf : ℕ → ℕ → List ℕ
 headOf flag suite = bytesOf 1 1 ++ bytesOf 1 flag ++ bytesOf 1 suite ++ bytesOf 1 0
 
+-- what is settled of the window
+abbrev pub frameBytes : Frame → List ℕ
+frameBytes f = bytesOf 8 (f .size) ++ bytesOf 8 (f .start)
+
 -- the key data, what is settled of the window, and zeros
 unfoldable pub freshSlot : KeyData → Frame → List ℕ
 freshSlot k f =
     padded slotLength
-    (headOf (k .flag) (k .suite) ++ prefixed keyIdRoom (k .keyId) ++ prefixed sourceRoom (k .source) ++ k .key ++ bytesOf 8 (f .size))
+    (headOf (k .flag) (k .suite) ++ prefixed keyIdRoom (k .keyId) ++ prefixed sourceRoom (k .source) ++ k .key ++ frameBytes f)

@@ -4,8 +4,8 @@ ghost use Prim.Native.Nat.{_+_, _<_, _≤_};
 ghost use lib.ListN.{length};
 ghost use Rattle.octets.specs.Octets.{put};
 ghost use Rattle.format.specs.KeyData.{keyed};
-ghost use Rattle.slots.specs.Table.{tableLength, slotCount, keyIdRoom, sourceRoom, replaced};
-ghost use Rattle.entries.specs.Fresh.{prefixed, headOf, freshSlot};
+ghost use Rattle.slots.specs.Table.{slotLength, tableLength, slotCount, sizeAt, keyIdRoom, sourceRoom, replaced};
+ghost use Rattle.entries.specs.Fresh.{prefixed, headOf, frameBytes, freshSlot};
 use format::key_data;
 use format::key_data::Terms;
 use slots::layout;
@@ -39,8 +39,8 @@ pub(crate) fn write_entry(
         key_data::GREATEST_SOURCE,
     );
     octets::copy(key, table, at + layout::KEY);
-    octets::write(table, at + layout::SIZE, 8, frame.size);
-    octets::clear(table, at + layout::START, layout::SLOT - layout::START);
+    write_frame(table, at, frame);
+    octets::clear(table, at + layout::HIGHEST, layout::SLOT - layout::HIGHEST);
 }
 
 // The first bytes of an occupied slot.
@@ -52,6 +52,15 @@ fn write_head(table: &mut [u8], at: usize, terms: Terms)
     octets::write(table, at + layout::FLAG, 1, terms.flag as u64);
     octets::write(table, at + layout::SUITE, 1, terms.suite as u64);
     octets::write(table, at + layout::EDITION, 1, 0);
+}
+
+// What is settled of the window, in the slot that begins at `at`.
+fn write_frame(table: &mut [u8], at: usize, frame: Frame)
+    requires { ⌜ at + slotLength ≤ length (now table) ⌝ }
+    ensures { λ _. ⌜ now (table .exit) ≡ put (now (table .entry)) (at + sizeAt) (frameBytes frame) ⌝ }
+{
+    octets::write(table, at + layout::SIZE, 8, frame.size);
+    octets::write(table, at + layout::START, 8, frame.start);
 }
 
 // The bytes behind their length, with zeros behind them up to so many in all, are written at `at`.

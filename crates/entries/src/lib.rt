@@ -9,8 +9,8 @@ use window::Frame;
 mod filling; // filling.rt: a fresh entry's slot, written
 mod installing; // installing.rt: entries put into the table and taken out
 
-// A fresh entry takes the lowest free slot. Refuses with 13 (key data unsound), 14 (an occupied slot has the same flag and KeyId and, for
-// flag 1, source) and 15 (no free slot), in that order.
+// A fresh entry takes the lowest free slot, and will take no number below its start. Refuses with 13 (key data, Size or start unsound), 14 (an
+// occupied slot has the same flag and KeyId and, for flag 1, source) and 15 (no free slot), in that order.
 pub fn install(
     table: &mut [u8; TABLE],
     flag: u8,
@@ -19,11 +19,12 @@ pub fn install(
     suite: u8,
     key: &[u8],
     size: u64,
+    start: u64,
 ) -> Answer
-    ensures { λ r. ⌜ IsLeft (installed (now (table .entry)) (handedIn flag (now (keyid .entry)) (now (source .entry)) suite (now (key .entry))) (record { size = size })) r (now (table .exit)) ⌝ }
+    ensures { λ r. ⌜ IsLeft (installed (now (table .entry)) (handedIn flag (now (keyid .entry)) (now (source .entry)) suite (now (key .entry))) (record { size = size; start = start })) r (now (table .exit)) ⌝ }
 {
     let terms = Terms { flag, suite };
-    let frame = Frame { size };
+    let frame = Frame { size, start };
     installing::install_in(table, terms, keyid, source, key, frame)
 }
 

@@ -81,9 +81,11 @@ named-most i s h =
       part-within sourceAt (sourceLengthOf s) s,
     ))
 
-terms-most : (s : List ℕ) → length (termLines s) ≤ 60
+terms-most : (s : List ℕ) → length (termLines s) ≤ 90
 unfolding termLines
-terms-most s = simp length-append (omega (arith, length-decimal (csOf s), length-decimal (entryOf s .window .frame .size)))
+terms-most s =
+    simp length-append
+    (omega (arith, length-decimal (csOf s), length-decimal (entryOf s .window .frame .size), length-decimal (entryOf s .window .frame .start)))
 
 moved-most : (s : List ℕ) → length (movedLines s) ≤ 160
 unfolding movedLines

@@ -1,5 +1,6 @@
 -- 01's listing of an entry ("Numbers on both sides of the edge"), from `slot=` to `bytes=`: "Each line ends with a line feed. keyid, source,
--- highest, marks are lower-case hex, two digits a byte, highest 12 digits and marks 64; the rest is decimal."
+-- highest, marks are lower-case hex, two digits a byte, highest 12 digits and marks 64; the rest is decimal." 02, No. 2: "The listing gets `start=`
+-- in decimal after `size=`."
 use mathlib.Core.Path.{_≡_}
 use mathlib.Core.Bool.{cond, _&&_}
 use mathlib.Core.List.{List, [], _∷_, _++_}
@@ -13,7 +14,7 @@ use Rattle.answers.specs.declared.Answer.{Answer}
 use Rattle.slots.specs.Table.{slotOf, occupied, flagOf, csOf, keyIdOf, sourceOf, entryOf, slotCount}
 use Rattle.slots.specs.Record.{undamaged}
 
--- the names of the lines: slot= flag= keyid= source= suite= size= highest= marks= accepted= bytes=
+-- the names of the lines: slot= flag= keyid= source= suite= size= start= highest= marks= accepted= bytes=
 abbrev pub slotName : List ℕ
 slotName = 115 ∷ 108 ∷ 111 ∷ 116 ∷ 61 ∷ []
 
@@ -31,6 +32,9 @@ suiteName = 115 ∷ 117 ∷ 105 ∷ 116 ∷ 101 ∷ 61 ∷ []
 
 abbrev pub sizeName : List ℕ
 sizeName = 115 ∷ 105 ∷ 122 ∷ 101 ∷ 61 ∷ []
+
+abbrev pub startName : List ℕ
+startName = 115 ∷ 116 ∷ 97 ∷ 114 ∷ 116 ∷ 61 ∷ []
 
 abbrev pub highestName : List ℕ
 highestName = 104 ∷ 105 ∷ 103 ∷ 104 ∷ 101 ∷ 115 ∷ 116 ∷ 61 ∷ []
@@ -53,7 +57,10 @@ namedLines i s =
 
 -- what else an install settled
 unfoldable pub termLines : List ℕ → List ℕ
-termLines s = decimalLine suiteName (csOf s) ++ decimalLine sizeName (entryOf s .window .frame .size)
+termLines s =
+    decimalLine suiteName (csOf s)
+    ++ decimalLine sizeName (entryOf s .window .frame .size)
+    ++ decimalLine startName (entryOf s .window .frame .start)
 
 -- what the arrivals moved
 unfoldable pub movedLines : List ℕ → List ℕ

@@ -76,16 +76,17 @@ fn write_named(i: usize, slot: &[u8], out: &mut [u8]) -> usize
 // The other lines that an install settled, from `at` on. Answers where they end.
 fn write_terms(slot: &[u8], out: &mut [u8], at: usize) -> usize
     requires { ⌜ (length (now slot) ≡ slotLength) × (at ≤ 600) × (outputRoom ≤ length (now out)) ⌝ }
-    ensures { λ r. ⌜ (r ≡ at + length (termLines (now (slot .entry)))) × (r ≤ 720) ⌝ }
+    ensures { λ r. ⌜ (r ≡ at + length (termLines (now (slot .entry)))) × (r ≤ 780) ⌝ }
     ensures { λ r. ⌜ now (out .exit) ≡ put (now (out .entry)) at (termLines (now (slot .entry))) ⌝ }
 {
     let a = text::write_decimal_line(b"suite=", slot[layout::SUITE] as u64, out, at);
-    text::write_decimal_line(b"size=", octets::read(slot, layout::SIZE, 8), out, a)
+    let b = text::write_decimal_line(b"size=", octets::read(slot, layout::SIZE, 8), out, a);
+    text::write_decimal_line(b"start=", octets::read(slot, layout::START, 8), out, b)
 }
 
 // The lines that the arrivals moved, from `at` on. Answers where they end.
 fn write_moved(slot: &[u8], out: &mut [u8], at: usize) -> usize
-    requires { ⌜ (length (now slot) ≡ slotLength) × (at ≤ 720) × (outputRoom ≤ length (now out)) ⌝ }
+    requires { ⌜ (length (now slot) ≡ slotLength) × (at ≤ 780) × (outputRoom ≤ length (now out)) ⌝ }
     ensures { λ r. ⌜ r ≡ at + length (movedLines (now (slot .entry))) ⌝ }
     ensures { λ r. ⌜ now (out .exit) ≡ put (now (out .entry)) at (movedLines (now (slot .entry))) ⌝ }
 {

@@ -17,7 +17,7 @@ use Rattle.window.specs.declared.Frame.{Frame}
 use Rattle.window.specs.Entry.{Entry}
 use Rattle.window.proofs.Entries.{UndamagedEntry, totals-small}
 use Rattle.window.proofs.Undamaged.{undamaged-facts, marks-small}
-use Rattle.slots.specs.Table.{slotOf, flagOf, csOf, keyIdLengthOf, keyIdOf, sourceLengthOf, sourceOf, keyOf, keyDataOf, windowOf, entryOf, historyBytes, settled, replaced, slotLength, slotCount, tableLength, occupiedAt, flagAt, suiteAt, keyIdLengthAt, keyIdAt, keyIdRoom, sourceLengthAt, sourceAt, sourceRoom, keyAt, sizeAt, highestAt, replaysAt}
+use Rattle.slots.specs.Table.{slotOf, flagOf, csOf, keyIdLengthOf, keyIdOf, sourceLengthOf, sourceOf, keyOf, keyDataOf, windowOf, entryOf, historyBytes, settled, replaced, slotLength, slotCount, tableLength, occupiedAt, flagAt, suiteAt, keyIdLengthAt, keyIdAt, keyIdRoom, sourceLengthAt, sourceAt, sourceRoom, keyAt, sizeAt, startAt, highestAt, replaysAt}
 use Rattle.slots.proofs.Replacing.{slot-own}
 use Rattle.slots.proofs.Slots.{slot-length}
 use Rattle.slots.proofs.Standing.{Lies, joined, ahead, lies, number}
@@ -76,10 +76,9 @@ module _ (s : List ℕ) (e : Entry) (long : length s ≡ slotLength) where
         key = piece keyAt 32 (lit≤ tt);
       }
 
-  same-size : bigEndian 8 (drop sizeAt now) ≡ bigEndian 8 (drop sizeAt s)
-  same-size =
-      number-same 8 (drop sizeAt now) (drop sizeAt s)
-      (λ i h. getD-drop sizeAt now i 0 ∙ byte (sizeAt + i) (omega arith) ∙ sym (getD-drop sizeAt s i 0))
+  same-number : (at n : ℕ) → at + n ≤ highestAt → bigEndian n (drop at now) ≡ bigEndian n (drop at s)
+  same-number at n h =
+      number-same n (drop at now) (drop at s) (λ i l. getD-drop at now i 0 ∙ byte (at + i) (omega arith) ∙ sym (getD-drop at s i 0))
 
   -- the stretches that it is made of, and their lengths
   abbrev stretches : List (List ℕ)
@@ -105,7 +104,8 @@ module _ (s : List ℕ) (e : Entry) (long : length s ≡ slotLength) where
       let u = undamaged-facts (e .window) (w .window) in
       let t = totals-small e w in
       rw (
-        same-size,
+        same-number sizeAt 8 (lit≤ tt),
+        same-number startAt 8 (lit≤ tt),
         number 8 (e .window .highest) (there 1) (omega (arith, u .high)),
         number 32 (e .window .marks) (there 2) (marks-small u),
         number 8 (e .accepted) (there 3) (omega arith),

@@ -10,7 +10,7 @@ use Rattle.numbers.specs.Digits.{fromDigits}
 use Rattle.octets.specs.Octets.{bigEndian, bytesOf}
 use Rattle.octets.proofs.BigEndian.{number-cat, bytes-cat}
 use Rattle.window.specs.Window.{viewOf}
-use Rattle.slots.specs.Table.{windowOf, sizeAt, highestAt, marksAt}
+use Rattle.slots.specs.Table.{frameOf, windowOf, sizeAt, startAt, highestAt, marksAt}
 
 pub marks-read : (at : ℕ) (l : List ℕ)
     → fromDigits 64 (bigEndian 8 (drop (at + 24) l) ∷ bigEndian 8 (drop (at + 16) l) ∷ bigEndian 8 (drop (at + 8) l) ∷ bigEndian 8 (drop at l) ∷ [])
@@ -39,9 +39,9 @@ marks-bytes a b c d p q r =
     )
 
 -- the window of the numbers that were read in a slot
-pub window-is : (s : List ℕ) {size highest a b c d : ℕ} → size ≡ bigEndian 8 (drop sizeAt s) → highest ≡ bigEndian 8 (drop highestAt s)
+pub window-is : (s : List ℕ) {size start highest a b c d : ℕ} → size ≡ bigEndian 8 (drop sizeAt s) → start ≡ bigEndian 8 (drop startAt s)
+    → highest ≡ bigEndian 8 (drop highestAt s)
     → a ≡ bigEndian 8 (drop (marksAt + 24) s) → b ≡ bigEndian 8 (drop (marksAt + 16) s) → c ≡ bigEndian 8 (drop (marksAt + 8) s) → d ≡ bigEndian 8 (drop marksAt s)
-    → viewOf (record { frame = record { size = size }; highest = highest; marks = a ∷ b ∷ c ∷ d ∷ [] }) ≡ windowOf s
-window-is s e f p q r t =
-    rw (e, f, p, q, r, t)
-    (ap (λ (m : ℕ). record { frame = record { size = bigEndian 8 (drop sizeAt s) }; highest = bigEndian 8 (drop highestAt s); marks = m }) (marks-read marksAt s))
+    → viewOf (record { frame = record { size = size; start = start }; highest = highest; marks = a ∷ b ∷ c ∷ d ∷ [] }) ≡ windowOf s
+window-is s e f g p q r t =
+    rw (e, f, g, p, q, r, t) (ap (λ (m : ℕ). record { frame = frameOf s; highest = bigEndian 8 (drop highestAt s); marks = m }) (marks-read marksAt s))

@@ -8,6 +8,7 @@ use lib.ListN.{getD, drop, replicate}
 use Rattle.octets.specs.Octets.{bigEndian, bytesOf, part, put}
 use Rattle.format.specs.KeyData.{KeyData}
 use Rattle.window.specs.Window.{View}
+use Rattle.window.specs.declared.Frame.{Frame}
 use Rattle.window.specs.Entry.{Entry}
 
 -- ---- the layout
@@ -60,7 +61,6 @@ keyAt = 166
 abbrev pub sizeAt : ℕ
 sizeAt = 198
 
--- kept for a start number, and not read yet
 abbrev pub startAt : ℕ
 startAt = 206
 
@@ -117,9 +117,11 @@ keyOf s = part keyAt 32 s
 abbrev pub keyDataOf : List ℕ → KeyData
 keyDataOf s = record { flag = flagOf s; keyId = keyIdOf s; source = sourceOf s; suite = csOf s; key = keyOf s }
 
+abbrev pub frameOf : List ℕ → Frame
+frameOf s = record { size = bigEndian 8 (drop sizeAt s); start = bigEndian 8 (drop startAt s) }
+
 abbrev pub windowOf : List ℕ → View
-windowOf s =
-    record { frame = record { size = bigEndian 8 (drop sizeAt s) }; highest = bigEndian 8 (drop highestAt s); marks = bigEndian 32 (drop marksAt s) }
+windowOf s = record { frame = frameOf s; highest = bigEndian 8 (drop highestAt s); marks = bigEndian 32 (drop marksAt s) }
 
 abbrev pub entryOf : List ℕ → Entry
 entryOf s = record { window = windowOf s; accepted = bigEndian 8 (drop acceptedAt s); bytes = bigEndian 8 (drop bytesAt s) }

@@ -29,7 +29,6 @@ pub const KEY: usize = 166;
 
 pub const SIZE: usize = 198;
 
-// Kept for a start number: zero in a fresh entry, and not read.
 pub const START: usize = 206;
 
 pub const HIGHEST: usize = 214;

@@ -26,6 +26,7 @@ pub fn window_in(slot: &[u8]) -> Window
     Window {
         frame: Frame {
             size: octets::read(slot, layout::SIZE, 8),
+            start: octets::read(slot, layout::START, 8),
         },
         highest: octets::read(slot, layout::HIGHEST, 8),
         marks: [

@@ -12,7 +12,7 @@ use lib.Pow.{pow-pos, shl-lt, shr-lt, split, mod-mod-pow}
 use Rattle.numbers.specs.Digits.{bit}
 use Rattle.numbers.proofs.Bits.{bit-put, put-lt, ones-put, bit-low, bit-high, bit-mod}
 use Rattle.window.specs.Window.{View, floorAt, floorOf, marked, moved, acceptOf}
-use Rattle.window.proofs.Floor.{floor-law, floor-le, floor-mono}
+use Rattle.window.proofs.Floor.{floor-law, floor-start, floor-le, floor-mono}
 
 -- What is needed of a window and a number for the laws below.
 pub record Takes (w : View) (n : ℕ) : Type 0 where
@@ -81,7 +81,7 @@ module _ {w : View} {n : ℕ} (t : Takes w n) where
   pub accept-reaches : floorOf (acceptOf w n) ≤ n
   accept-reaches =
       let l = floor-law (w .frame) (w .highest) (t .sized) in
-      floor-le (w .frame) (max (w .highest) n) n (omega (arith, t .reached, t .sized))
+      floor-le (w .frame) (max (w .highest) n) n (omega (arith, floor-start (w .frame) (w .highest), t .reached)) (omega (arith, t .reached, t .sized))
 
   pub accept-free : bit (moved w (max (w .highest) n)) (max (w .highest) n - n) ≡ false
   unfolding top

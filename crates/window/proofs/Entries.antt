@@ -2,12 +2,12 @@
 -- Assumes nothing.
 use mathlib.Core.Path.{_≡_}
 use mathlib.Core.Bool.{true, false}
-use Prim.Native.Nat.{ℕ, _+_, _*_, _^_, _≤_, _<_}
+use Prim.Native.Nat.{ℕ, _+_, _-_, _*_, _^_, _≤_, _<_}
 use native.Mathlib.Omega.{arith}
 use borrow.Author.Tests.{leb-true, le-leb}
 use lib.Count.{onesIn, ones-le}
 use Rattle.numbers.proofs.Bits.{ones-in}
-use Rattle.window.proofs.Floor.{floor-le}
+use Rattle.window.proofs.Floor.{floor-start, floor-le}
 use Rattle.numbers.proofs.Tests.{and-left, and-right, and-both, refuted}
 use Rattle.window.specs.declared.Verdict.the-variants.{Admissible}
 use Rattle.window.specs.Window.{View, soundFrame, floorOf, verdictOf, countOf, undamagedWindow}
@@ -19,7 +19,7 @@ use Rattle.window.proofs.Undamaged.{marks-small, undamaged-facts, undam
 pub record UndamagedEntry (e : Entry) : Type 0 where
   pub window : undamagedWindow (e .window) ≡ true
   pub enough : countOf (e .window) ≤ e .accepted
-  pub few : e .accepted ≤ countOf (e .window) + floorOf (e .window)
+  pub few : e .accepted ≤ countOf (e .window) + floorOf (e .window) - e .window .frame .start
   pub light : e .bytes ≤ longestPayload * e .accepted
 
 pub entry-facts : (e : Entry) → undamagedEntry e ≡ true → UndamagedEntry e
@@ -55,7 +55,7 @@ taken-undamaged e n payload w v small short =
     let c = accept-count u t in record {
       window = undamaged-test (taken e n payload .window) (accept-undamaged u t small);
       enough = omega (arith, w .enough);
-      few = omega (arith, w .few);
+      few = omega (arith, w .few, floor-start (e .window .frame) (e .window .highest));
       light = omega (arith, w .light);
     }
 
@@ -64,7 +64,7 @@ taken-undamaged e n payload w v small short =
 pub floor-small : (w : View) → undamagedWindow w ≡ true → floorOf w < 2 ^ 48
 floor-small w e =
     let u = undamaged-facts w e in
-    omega (arith, u .high, floor-le (w .frame) (w .highest) (w .highest) (omega (arith, u .sized)))
+    omega (arith, floor-le (w .frame) (w .highest) (2 ^ 48 - 1) (omega (arith, u .framed .start-high)) (omega (arith, u .high)))
 
 count-small : (w : View) → undamagedWindow w ≡ true → countOf w ≤ 256
 count-small w e = let wide = marks-small (undamaged-facts w e) in rw (ones-in 256 (w .marks) wide) (ones-le 256 (w .marks) wide)

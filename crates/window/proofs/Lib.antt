@@ -5,3 +5,4 @@ pub mod Accept
 pub mod Undamaged
 pub mod Steps
 pub mod Determined
+pub mod Starts

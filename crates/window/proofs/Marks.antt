@@ -1,10 +1,11 @@
 -- Which numbers are marked, and the verdict on a number by that.
 -- Assumes nothing.
 use mathlib.Core.Path.{_≡_, refl}
-use mathlib.Core.Bool.{Bool, true, false}
+use mathlib.Core.Bool.{Bool, true, false, and-false}
 use Prim.Native.Nat.{ℕ, _-_, _≤_, _<_}
 use borrow.Author.Tests.{le-leb, lt-leb, lt-ltb, le-ltb}
 use Rattle.numbers.specs.Digits.{bit}
+use Rattle.numbers.proofs.Bits.{bit-none}
 use Rattle.window.specs.declared.Verdict.the-variants.{Below, Marked, Admissible}
 use Rattle.window.specs.Window.{View, floorOf, marked, judge, verdictOf}
 
@@ -31,3 +32,7 @@ marked-within w n h = rw (le-leb n (w .highest) h)
 pub marked-above : (w : View) (n : ℕ) → w .highest < n → marked w n ≡ false
 unfolding marked
 marked-above w n h = rw (lt-leb n (w .highest) h)
+
+pub no-mark : (w : View) (n : ℕ) → w .marks ≡ 0 → marked w n ≡ false
+unfolding marked
+no-mark w n e = rw (e, bit-none, and-false)

@@ -19,7 +19,7 @@ pub record Accepting (w : View) (n top : ℕ) : Type 0 where
 
 module _ {w : View} {n top : ℕ} (a : Accepting w n top) where
   reaches : top + 1 ≤ floorAt (w .frame) top + 256
-  reaches = let u = a .undamaged in omega (arith, floor-law (w .frame) top (u .sized), u .size-high)
+  reaches = let f = a .undamaged .framed in omega (arith, floor-law (w .frame) top (f .sized), f .size-high)
 
   -- Size is at most 256, so no mark is lost that the window still reaches.
   pub moves : {rise reach x y : ℕ} → rise ≡ min (top - w .highest) (w .frame .size) → x ≡ w .marks * 2 ^ rise % 2 ^ 256

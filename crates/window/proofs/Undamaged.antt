@@ -1,7 +1,7 @@
 -- The damage rule as facts: a fresh window is undamaged, and one that accepts a number stays so.
 -- Assumes nothing.
 use mathlib.Core.Path.{_≡_, refl, sym, _∙_}
-use mathlib.Core.Bool.{Bool, true, false, _||_, and-false, or-true}
+use mathlib.Core.Bool.{Bool, true, false, _||_, or-true}
 use Prim.Native.Nat.{ℕ, _+_, _-_, _^_, _≤_, _<_, max}
 use native.Mathlib.Nat.{sub-self, lt-of-lt-of-le}
 use native.Mathlib.Omega.{arith}
@@ -10,7 +10,7 @@ use lib.Count.{ones}
 use lib.Dec.{eqb, leb, ltb}
 use lib.Pow.{pow-pos, pow-mono}
 use Rattle.numbers.specs.Digits.{bit}
-use Rattle.numbers.proofs.Bits.{bit-none, ones-in}
+use Rattle.numbers.proofs.Bits.{ones-in}
 use Rattle.numbers.proofs.Tests.{and-left, and-right, and-both, refuted}
 use Rattle.window.specs.declared.Verdict.the-variants.{Admissible}
 use Rattle.window.specs.Window.{soundFrame, View, floorOf, marked, verdictOf, acceptOf, countOf, undamagedWindow, freshOf}
@@ -19,10 +19,25 @@ use Rattle.window.proofs.Floor.{floor-law}
 use Rattle.window.proofs.Marks.{judged, marked-within}
 use Rattle.window.proofs.Accept.{Takes, accept-reaches, accept-marked, accept-inside, accept-ones}
 
+-- What a sound frame keeps to.
+pub record SoundFrame (f : Frame) : Type 0 where
+  pub sized : 1 ≤ f .size
+  pub size-high : f .size ≤ 256
+  pub start-high : f .start < 2 ^ 48
+
+pub frame-facts : (f : Frame) → soundFrame f ≡ true → SoundFrame f
+frame-facts f h = search (and-left, and-right, leb-true) depth 9
+
+pub frame-test : (f : Frame) → SoundFrame f → soundFrame f ≡ true
+frame-test f s = search (and-both, le-leb) depth 9
+
+-- A frame of which one fact fails is unsound.
+pub frame-unsound : (f : Frame) → (SoundFrame f → ⊥) → false ≡ soundFrame f
+frame-unsound f bad = refuted (soundFrame f) (λ e. bad (frame-facts f e))
+
 -- The rule's tests, as facts.
 pub record UndamagedWindow (w : View) : Type 0 where
-  pub sized : 1 ≤ w .frame .size
-  pub size-high : w .frame .size ≤ 256
+  pub framed : SoundFrame (w .frame)
   pub high : w .highest < 2 ^ 48
   pub inside : w .marks < 2 ^ (w .highest + 1 - floorOf w)
   pub headed : (eqb (w .highest) 0 || marked w (w .highest)) ≡ true
@@ -34,17 +49,6 @@ undamaged-facts w h = search (and-left, and-right, leb-true) depth 9
 pub undamaged-test : (w : View) → UndamagedWindow w → undamagedWindow w ≡ true
 unfolding undamagedWindow
 undamaged-test w u = search (and-both, le-leb) depth 9
-
--- A frame of which one fact fails is unsound.
-pub frame-unsound : (f : Frame) → (1 ≤ f .size → f .size ≤ 256 → ⊥) → false ≡ soundFrame f
-frame-unsound f bad =
-    refuted (soundFrame f) (λ e. bad (leb-true _ _ (and-left _ _ e)) (leb-true _ _ (and-right (leb 1 (f .size)) _ e)))
-
-pub frame-sound : (f : Frame) → 1 ≤ f .size → f .size ≤ 256 → true ≡ soundFrame f
-frame-sound f l h = sym (and-both _ _ (le-leb 1 (f .size) l) (le-leb (f .size) 256 h))
-
-pub frame-most : (f : Frame) → soundFrame f ≡ true → f .size ≤ 256
-frame-most f e = leb-true _ _ (and-right (leb 1 (f .size)) _ e)
 
 pub damaged-frame : (w : View) → soundFrame (w .frame) ≡ false → false ≡ undamagedWindow w
 unfolding undamagedWindow
@@ -72,33 +76,28 @@ module _ (w : View) (sound : soundFrame (w .frame) ≡ true) (high : w .highest 
 
 pub fresh-undamaged : (f : Frame) → soundFrame f ≡ true → UndamagedWindow (freshOf f)
 fresh-undamaged f h = record {
-  sized = leb-true _ _ (and-left _ _ h);
-  size-high = leb-true _ _ (and-right (leb 1 (f .size)) _ h);
+  framed = frame-facts f h;
   high = omega arith;
   inside = pow-pos (1 - floorOf (freshOf f));
   headed = refl;
 }
 
-pub fresh-unmarked : (f : Frame) (n : ℕ) → marked (freshOf f) n ≡ false
-unfolding marked
-fresh-unmarked f n = rw (bit-none, and-false)
-
 -- The window's 256 digits hold every mark.
-held : (w : View) → 1 ≤ w .frame .size → w .frame .size ≤ 256 → w .marks < 2 ^ (w .highest + 1 - floorOf w) → w .marks < 2 ^ 256
-held w s h i = let l = floor-law (w .frame) (w .highest) s in lt-of-lt-of-le i (pow-mono {j = 256} (omega arith))
+held : (w : View) → SoundFrame (w .frame) → w .marks < 2 ^ (w .highest + 1 - floorOf w) → w .marks < 2 ^ 256
+held w s i = let l = floor-law (w .frame) (w .highest) (s .sized) in lt-of-lt-of-le i (pow-mono {j = 256} (omega (arith, s .size-high)))
 
 pub marks-small : {w : View} → UndamagedWindow w → w .marks < 2 ^ 256
-marks-small {w} u = held w (u .sized) (u .size-high) (u .inside)
+marks-small {w} u = held w (u .framed) (u .inside)
 
-counts : (w : View) → 1 ≤ w .frame .size → w .frame .size ≤ 256 → w .marks < 2 ^ (w .highest + 1 - floorOf w) → countOf w ≡ ones (w .marks)
-counts w s h i = ones-in 256 (w .marks) (held w s h i)
+counts : (w : View) → SoundFrame (w .frame) → w .marks < 2 ^ (w .highest + 1 - floorOf w) → countOf w ≡ ones (w .marks)
+counts w s i = ones-in 256 (w .marks) (held w s i)
 
 -- ---- a number is accepted
 
 pub takes : {w : View} (n : ℕ) → UndamagedWindow w → verdictOf w n ≡ Admissible → Takes w n
 takes {w} n u v =
     let j = judged (ltb n (floorOf w)) (marked w n) v in
-    record { sized = u .sized; inside = u .inside; reached = ltb-false n (floorOf w) (j .0); unused = j .1 }
+    record { sized = u .framed .sized; inside = u .inside; reached = ltb-false n (floorOf w) (j .0); unused = j .1 }
 
 module _ {w : View} {n : ℕ} (u : UndamagedWindow w) (t : Takes w n) where
   -- The new highest number is marked, or 0.
@@ -117,8 +116,7 @@ module _ {w : View} {n : ℕ} (u : UndamagedWindow w) (t : Takes w n) where
 
   pub accept-undamaged : n < 2 ^ 48 → UndamagedWindow (acceptOf w n)
   accept-undamaged b = record {
-    sized = u .sized;
-    size-high = u .size-high;
+    framed = u .framed;
     high = omega (arith, u .high);
     inside = accept-inside t;
     headed = accept-headed;
@@ -128,5 +126,5 @@ module _ {w : View} {n : ℕ} (u : UndamagedWindow w) (t : Takes w n) where
   pub accept-count : (countOf (acceptOf w n) ≤ countOf w + 1) × (countOf w + 1 + floorOf w ≤ countOf (acceptOf w n) + floorOf (acceptOf w n))
   accept-count =
       let o = accept-ones t in
-      let before = counts w (u .sized) (u .size-high) (u .inside) in
-      let after = counts (acceptOf w n) (u .sized) (u .size-high) (accept-inside t) in omega arith
+      let before = counts w (u .framed) (u .inside) in
+      let after = counts (acceptOf w n) (u .framed) (accept-inside t) in omega arith

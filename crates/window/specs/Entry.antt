@@ -1,6 +1,6 @@
--- An entry's window with its two totals (01, "Key lookup, window and totals").
+-- An entry's window with its two totals (01, "Key lookup, window and totals"; 02, No. 2).
 use mathlib.Core.Bool.{Bool, _&&_}
-use Prim.Native.Nat.{ℕ, _+_, _*_}
+use Prim.Native.Nat.{ℕ, _+_, _-_, _*_}
 use lib.Dec.{leb}
 use Rattle.window.specs.Window.{View, floorOf, acceptOf, countOf, undamagedWindow, freshOf}
 use Rattle.window.specs.declared.Frame.{Frame}
@@ -22,11 +22,11 @@ taken e n payload = record { window = acceptOf (e .window) n; accepted = e .acce
 abbrev pub longestPayload : ℕ
 longestPayload = 2034
 
--- the damage rule but for the key data: that of the window; "accepted is below the number of marks, or above that number plus the floor; or
--- bytes exceed 2,034 × accepted"
+-- the damage rule but for the key data: that of the window; accepted is below the number of marks, or above "the marks plus floor minus start";
+-- "or bytes exceed 2,034 × accepted"
 unfoldable pub undamagedEntry : Entry → Bool
 undamagedEntry e =
     undamagedWindow (e .window)
     && leb (countOf (e .window)) (e .accepted)
-    && leb (e .accepted) (countOf (e .window) + floorOf (e .window))
+    && leb (e .accepted) (countOf (e .window) + floorOf (e .window) - e .window .frame .start)
     && leb (e .bytes) (longestPayload * e .accepted)

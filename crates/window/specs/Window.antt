@@ -1,4 +1,5 @@
--- The window of accepted numbers (01, "Key lookup, window and totals"): floor, admissible, accept, and what of the damage rule speaks of the window.
+-- The window of accepted numbers (01, "Key lookup, window and totals"; 02, No. 2): floor, admissible, accept, and what of the damage rule speaks of
+-- the window.
 use mathlib.Core.Bool.{Bool, true, false, _&&_, _||_}
 use Prim.Native.Nat.{ℕ, _+_, _-_, _*_, _%_, _^_, min, max}
 use lib.Count.{onesIn}
@@ -9,9 +10,10 @@ use Rattle.window.specs.declared.Window.{Window}
 use Rattle.window.specs.declared.Verdict.{Verdict}
 use Rattle.window.specs.declared.Verdict.the-variants.{Below, Marked, Admissible}
 
--- A frame, of the code, holds what an install settles of a window: its Size. "for an entry, Size is 1 to 256"
+-- A frame, of the code, holds what an install settles of a window: its Size and its start. "for an entry, Size is 1 to 256"; "a start number, 0 to
+-- 2^48 − 1"
 abbrev pub soundFrame : Frame → Bool
-soundFrame f = leb 1 (f .size) && leb (f .size) 256
+soundFrame f = leb 1 (f .size) && leb (f .size) 256 && ltb (f .start) (2 ^ 48)
 
 -- A window as the definitions see it. The marks are one number: its digit of value 2 ^ i stands for the number highest − i.
 pub record View : Type 0 where
@@ -23,9 +25,9 @@ pub record View : Type 0 where
 abbrev pub viewOf : Window → View
 viewOf w = record { frame = w .frame; highest = w .highest; marks = fromDigits 64 (w .marks) }
 
--- "Floor = highest − Size + 1, or 0 where that is negative." Size is at least 1.
+-- "Floor = highest − Size + 1, or 0 where that is negative." Size is at least 1. "The floor becomes the larger of start and the old floor."
 unfoldable pub floorAt : Frame → ℕ → ℕ
-floorAt f highest = highest - (f .size - 1)
+floorAt f highest = max (f .start) (highest - (f .size - 1))
 
 abbrev pub floorOf : View → ℕ
 floorOf w = floorAt (w .frame) (w .highest)

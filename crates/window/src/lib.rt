@@ -15,9 +15,10 @@ const LARGEST_SIZE: u64 = 256;
 // The most bytes that a payload can have.
 const LONGEST_PAYLOAD: u64 = 2034;
 
-// What an install settles of a window: its Size.
+// What an install settles of a window: its Size, and the start below which no number is taken.
 pub struct Frame {
     pub size: u64,
+    pub start: u64,
 }
 
 // The frame, the highest number, and the marks: four words, the lowest first. The bit of value 2^i of the whole stands for highest - i.
@@ -35,19 +36,20 @@ pub enum Verdict {
 }
 
 impl Window {
-    // The least number that is not too old.
+    // The least number that is neither too old nor below the start.
     pub(crate) fn floor(self) -> u64
         ensures { λ r. ⌜ r ≡ floorOf (viewOf self) ⌝ }
     {
         let size = self.frame.size;
+        let start = self.frame.start;
         let highest = self.highest;
         if size == 0 {
-            return highest;
+            return larger(start, highest);
         }
         if highest < size - 1 {
-            return 0;
+            return start;
         }
-        highest - (size - 1)
+        larger(start, highest - (size - 1))
     }
 
     // Whether n may be accepted, and why not.
@@ -118,15 +120,19 @@ impl Window {
         words::count(marks)
     }
 
-    // How many numbers stand from the floor to the highest.
+    // How many numbers stand from the floor to the highest: none where a start lies above it.
     fn reach(self) -> u64
         ensures { λ r. ⌜ r ≡ self .highest + 1 - floorOf (viewOf self) ⌝ }
     {
-        self.highest - self.floor() + 1
+        let floor = self.floor();
+        if self.highest < floor {
+            return 0;
+        }
+        self.highest - floor + 1
     }
 }
 
-// Whether a window may have that Size.
+// Whether a window may have that Size and that start.
 pub fn sound_frame(frame: Frame) -> bool
     ensures { λ r. ⌜ r ≡ soundFrame frame ⌝ }
 {
@@ -134,6 +140,9 @@ pub fn sound_frame(frame: Frame) -> bool
         return false;
     }
     if LARGEST_SIZE < frame.size {
+        return false;
+    }
+    if LAST < frame.start {
         return false;
     }
     true
@@ -150,7 +159,7 @@ pub fn undamaged_entry(window: Window, accepted: u64, bytes: u64) -> bool
     if accepted < count {
         return false;
     }
-    if count + window.floor() < accepted {
+    if count + window.floor() - window.frame.start < accepted {
         return false;
     }
     if LONGEST_PAYLOAD * accepted < bytes {

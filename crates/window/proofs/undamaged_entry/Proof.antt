@@ -6,6 +6,7 @@ use borrow.Author.Needs.{needs}
 use borrow.Author.Tests.{not-true, not-false}
 use Rattle.window.specs.Window.{viewOf, undamagedWindow}
 use Rattle.window.proofs.Entries.{floor-small, entry-test, entry-damaged, entry-damaged-window}
+use Rattle.window.proofs.Floor.{floor-start}
 use Rattle.window.proofs.undamaged_entry.Statement.{statement}
 use Rattle.window.proofs.undamaged_entry.Tie as tie
 
@@ -13,10 +14,14 @@ use Rattle.window.proofs.undamaged_entry.Tie as tie
 undamaged : (c : tie.Else1) → undamagedWindow (viewOf (c .before .before .args .window)) ≡ true
 undamaged c = sym (c .before .undamaged .ensures) ∙ not-false _ (c .if1 .left)
 
+sub-if3 : tie.Need-sub-if3
+sub-if3 c = omega (arith, floor-start (c .before .before .before .before .before .before .args .window .frame) (c .before .before .before .before .before .before .args .window .highest))
+
 returns-5 : tie.Need-returns-5
 returns-5 c =
     sym
-    (entry-test _ (record { window = undamaged (c .before .before .before .before .before); enough = omega arith; few = omega arith; light = omega arith }))
+    (entry-test _
+    (record { window = undamaged (c .before .before .before .before .before .before); enough = omega arith; few = omega arith; light = omega arith }))
 
 pub undamaged-entry-spec : {M : Type 1} → statement M
 undamaged-entry-spec =
@@ -28,7 +33,8 @@ undamaged-entry-spec =
     (λ c. entry-damaged _ (λ w. omega (arith, w .enough)))
     (λ c κs. search needs)
     (λ c. let f = floor-small _ (undamaged (c .before .before .before)) in omega arith)
+    sub-if3
     (λ c. entry-damaged _ (λ w. omega (arith, w .few)))
-    (λ c. let f = floor-small _ (undamaged (c .before .before .before .before)) in omega arith)
+    (λ c. let f = floor-small _ (undamaged (c .before .before .before .before .before)) in omega arith)
     (λ c. entry-damaged _ (λ w. omega (arith, w .light)))
     returns-5)

@@ -15,7 +15,7 @@ accepting l =
     record { undamaged = undamaged-facts _ (s .pre .0); admitted = s .pre .1; larger = l .larger .ensures }
 
 shifted-requires : tie.Need-shifted-requires
-shifted-requires c κs = omega (arith, accepting (c .before .before) .undamaged .size-high)
+shifted-requires c κs = omega (arith, accepting (c .before .before) .undamaged .framed .size-high)
 
 moving : (c : tie.After-cut)
     → let l = c .before .before .before .before .before in

@@ -1,4 +1,4 @@
--- `Window::reach` meets its contract: the floor is at most the highest, and above 0 where Size is at its largest.
+-- `Window::reach` meets its contract: a floor above the highest leaves nothing, and else as many numbers as Size at most, which a word holds.
 use borrow.Author.Needs.{needs}
 use Rattle.window.specs.Window.{floorAt}
 use Rattle.window.proofs.Window.reach.Statement.{statement}
