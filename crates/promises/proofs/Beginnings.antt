@@ -10,10 +10,11 @@ use borrow.Author.Tests.{le-ltb}
 use lib.ListN.{length}
 use Rattle.octets.specs.Octets.{Bytes}
 use Rattle.answers.specs.declared.Answer.{Answer}
-use Rattle.window.specs.Window.{floorOf, marked}
+use Rattle.window.specs.Window.{floorOf, marked, freshOf}
 use Rattle.window.specs.declared.Frame.{Frame}
 use Rattle.window.specs.Entry.{Entry}
-use Rattle.window.proofs.Undamaged.{frame-most, fresh-unmarked}
+use Rattle.window.proofs.Marks.{no-mark}
+use Rattle.window.proofs.Undamaged.{frame-facts}
 use Rattle.format.specs.KeyData.{KeyData}
 use Rattle.format.proofs.Soundness.{sound-facts}
 use Rattle.slots.specs.Table.{slotOf, windowOf, entryOf, keyDataOf, replaced, slotCount, tableLength}
@@ -42,7 +43,7 @@ module _ (t : List ℕ) (long : length t ≡ tableLength) (k : KeyData) (f : Fra
       let slot = freshSlot k f in
       let full = length-fresh sound (bytes 0) f in
       let own = slot-own t i slot long small full in
-      let entry = ap entryOf own ∙ fresh-entry sound (bytes 0) f (omega (arith, frame-most f (fair .framed))) in
+      let entry = ap entryOf own ∙ fresh-entry sound (bytes 0) f (frame-facts f (fair .framed)) in
       record {
         long = length-replaced t i slot long small full;
         keys = ap keyDataOf own ∙ fresh-keydata sound (bytes 0) f;
@@ -52,7 +53,7 @@ module _ (t : List ℕ) (long : length t ≡ tableLength) (k : KeyData) (f : Fra
         unharmed = rw own (fresh-undamaged sound (bytes 0) f (fair .framed));
         frame = ap (λ (e : Entry). e .window .frame) entry;
         highest = ap (λ (e : Entry). e .window .highest) entry;
-        used = λ n l. ap (λ (e : Entry). marked (e .window) n) entry ∙ fresh-unmarked f n;
+        used = λ n l. ap (λ (e : Entry). marked (e .window) n) entry ∙ no-mark (freshOf f) n refl;
         accepted = ap (λ (e : Entry). e .accepted) entry;
         bytes = ap (λ (e : Entry). e .bytes) entry;
       }

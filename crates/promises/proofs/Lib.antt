@@ -12,6 +12,7 @@ pub mod Refusals
 pub mod Replies
 pub mod RoundTrip
 pub mod Runs
+pub mod Starts
 pub mod Steps
 pub mod Traces
 pub mod Worthless

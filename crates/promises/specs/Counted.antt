@@ -75,8 +75,11 @@ messages (used ∷ past) = messages past
 messages (forged ∷ past) = messages past
 messages (new x ∷ past) = x ∷ messages past
 
+abbrev pub numbersOf : List Message → List ℕ
+numbersOf = map (λ (x : Message). x .number)
+
 abbrev pub numbers : List Told → List ℕ
-numbers past = map (λ (x : Message). x .number) (messages past)
+numbers past = numbersOf (messages past)
 
 -- the highest of some numbers, 0 where there is none; and whether a number is one of them
 abbrev pub highestOf : List ℕ → ℕ
@@ -93,7 +96,7 @@ isIn n (m ∷ ms) = eqb n m || isIn n ms
 abbrev pub highestSince : Beginning → List Told → ℕ
 highestSince b past = max (b .highest) (highestOf (numbers past))
 
--- "below the floor of the highest number counted before"
+-- "below the floor of the highest number counted before"; "Demand 3's floor is this one" (02, No. 2), with the start of the frame in it
 abbrev pub isBelow : Beginning → List Told → ℕ → Bool
 isBelow b past n = ltb n (floorAt (b .frame) (highestSince b past))
 

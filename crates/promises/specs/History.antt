@@ -19,7 +19,7 @@ use Rattle.lookup.specs.Lookup.{leadsTo}
 use Rattle.lookup.specs.declared.Found.the-variants.{At}
 use Rattle.gateway.specs.Receive.{Received}
 use Rattle.promises.specs.Calls.{Call, arrival, install, remove, OfBytes, called, results, isDone}
-use Rattle.promises.specs.Counted.{Beginning, Message, Told, apart, below, used, forged, new, messages, numbers, isIn, highestSince, isOf, told}
+use Rattle.promises.specs.Counted.{Beginning, Message, Told, apart, below, used, forged, new, messages, numbersOf, numbers, isIn, highestSince, isOf, told}
 
 -- ---- where a history begins in a table
 
@@ -87,6 +87,10 @@ abbrev pub handedBy : ℕ → List Message → List Call → List Received → L
 handedBy i past (c ∷ cs) (r ∷ rs) = handedBy i (noted past (answered i c (r .answer))) cs rs
 handedBy i past (c ∷ cs) [] = past
 handedBy i past [] rs = past
+
+-- no number of a message that was handed out in one place is among the numbers that were handed out in another
+abbrev pub NotAgain : List Message → List Message → Type 0
+NotAgain first second = (n : ℕ) → isIn n (numbersOf first) ≡ true → isIn n (numbersOf second) ≡ false
 
 -- ---- what is told of a call settles what is handed out and what is replied
 

@@ -1,4 +1,4 @@
--- Each reply's own case (01, "Replies"; 02, No. 1), and the rule that joins them: the first that fits, in the listed order, is given; where none fits, 0.
+-- Each reply's own case (01, "Replies"; 02, No. 1 and 2), and the rule that joins them: the first that fits, in the listed order, is given; where none fits, 0.
 use mathlib.Core.Path.{_≡_}
 use mathlib.Core.Bool.{Bool, true, false, cond, not, _||_, _&&_}
 use mathlib.Core.List.{List, [], _∷_}
@@ -137,7 +137,7 @@ receiveReplies t m source out =
 
 unfoldable pub installReplies : List ℕ → KeyData → Frame → List Reply
 installReplies t k f =
-    -- key data unsound, Size with it
+    -- key data unsound, Size and start with it
     reply 13 (not (soundOf k && soundFrame f))
     -- an occupied slot has the same flag and KeyId and, for flag 1, source
     ∷ reply 14 (not (isNothing (leadsTo t (k .flag) (k .keyId) (k .source))))
