@@ -25,10 +25,11 @@ pub extern "C" fn crisp_install(
     suite: u8,
     key: &[u8],
     size: u64,
+    start: u64,
 ) -> Answer
-    ensures { λ r. ⌜ IsLeft (installed (now (table .entry)) (handedIn flag (now (keyid .entry)) (now (source .entry)) suite (now (key .entry))) (record { size = size })) r (now (table .exit)) ⌝ }
+    ensures { λ r. ⌜ IsLeft (installed (now (table .entry)) (handedIn flag (now (keyid .entry)) (now (source .entry)) suite (now (key .entry))) (record { size = size; start = start })) r (now (table .exit)) ⌝ }
 {
-    entries::install(table, flag, keyid, source, suite, key, size)
+    entries::install(table, flag, keyid, source, suite, key, size, start)
 }
 
 // As `entries::remove`.

@@ -18,7 +18,7 @@ fn clear(table: &mut [u8; TABLE]) -> u64 {
     0
 }
 
-// Flag, KeyId, source, suite, key and Size.
+// Flag, KeyId, source, suite, key, Size and start.
 fn install(operands: &[u8], table: &mut [u8; TABLE]) -> u64 {
     let answer = entries::install(
         table,
@@ -28,6 +28,7 @@ fn install(operands: &[u8], table: &mut [u8; TABLE]) -> u64 {
         script::byte(operands, 3),
         script::operand(operands, 4),
         script::number(operands, 5),
+        script::number(operands, 6),
     );
     answer.reply
 }
