@@ -53,13 +53,23 @@ static int protects(int suite, size_t length, uint64_t n)
     return 0;
 }
 
-/* the entry stands in slot `slot`, behind others; the window is put back before each arrival */
-static int receives(int suite, size_t length, int slot, int damage, uint64_t n, uint64_t reply)
+/* an entry is installed in an empty table, n times */
+static int installs(uint64_t n)
+{
+    while (n--) {
+        table[0] = 0;
+        if (crisp_install(table, 1, (const uint8_t *)"\x30", 1, source, 12, 1, key_bytes, 32, 256, numbers[1]).reply) return 1;
+    }
+    return 0;
+}
+
+/* the entry stands in slot `slot`, behind others, with that start; the window is put back before each arrival */
+static int arrives(int suite, size_t length, int slot, uint64_t start, int damage, uint64_t n, uint64_t reply)
 {
     for (int i = 0; i <= slot; i++) {
         uint8_t keyid[2] = {0x81, (uint8_t)i};
-        struct crisp_answer a = i < slot ? crisp_install(table, 1, keyid, 2, source, 12, (uint8_t)suite, key_bytes, 32, 256)
-                                         : crisp_install(table, 1, (const uint8_t *)"\x30", 1, source, 12, (uint8_t)suite, key_bytes, 32, 256);
+        struct crisp_answer a = i < slot ? crisp_install(table, 1, keyid, 2, source, 12, (uint8_t)suite, key_bytes, 32, 256, 0)
+                                         : crisp_install(table, 1, (const uint8_t *)"\x30", 1, source, 12, (uint8_t)suite, key_bytes, 32, 256, start);
         if (a.reply) return 1;
     }
     struct crisp_sender s = sender_of(suite);
@@ -74,6 +84,8 @@ static int receives(int suite, size_t length, int slot, int damage, uint64_t n, 
     }
     return 0;
 }
+
+static int receives(int suite, size_t length, int slot, int damage, uint64_t n, uint64_t reply) { return arrives(suite, length, slot, 0, damage, n, reply); }
 
 /* ---- the operations */
 
@@ -168,7 +180,7 @@ static int capture_begins(void)
         if (a.reply || a.length != 51) return 1;
         put(entry, sizeof entry), put(source, 12), put(message, 51);
     }
-    struct crisp_answer a = crisp_install(table, 1, (const uint8_t *)"\x30", 1, source, 12, 2, key_bytes, 32, 4);
+    struct crisp_answer a = crisp_install(table, 1, (const uint8_t *)"\x30", 1, source, 12, 2, key_bytes, 32, 4, 0);
     memcpy(saved, table, sizeof table);
     return a.reply != 0;
 }
@@ -220,6 +232,8 @@ static int refuse_version(uint64_t n) { return receives(1, 37, 0, 1, n, 3); }
 static int refuse_no_entry(uint64_t n) { return receives(1, 37, 0, 3, n, 6); }
 static int refuse_no_entry_16(uint64_t n) { return receives(1, 37, 15, 3, n, 6); }
 static int refuse_icv(uint64_t n) { return receives(1, 37, 0, 50, n, 11); }
+static int receive_at_start(uint64_t n) { return arrives(1, 37, 0, numbers[1], -1, n, 0); }
+static int refuse_below_start(uint64_t n) { return arrives(1, 37, 0, numbers[1] + 1, -1, n, 9); }
 static int protect_a_1(uint64_t n) { return protects(1, 37, n); }
 static int protect_a_2(uint64_t n) { return protects(2, 37, n); }
 static int protect_2048_1(uint64_t n) { return protects(1, 2034, n); }
@@ -237,7 +251,8 @@ static const struct {
     {"block", block}, {"check-2048", check_2048}, {"counter-2048", counter_2048}, {"keys-suite-1", keys_suite_1}, {"keys-suite-2", keys_suite_2},
     {"receive-A.1", receive_a_1}, {"receive-A.2", receive_a_2}, {"receive-2048-suite-1", receive_2048_1}, {"receive-2048-suite-2", receive_2048_2},
     {"receive-A.1-slot-15", receive_slot_15}, {"refuse-version", refuse_version}, {"refuse-no-entry", refuse_no_entry},
-    {"refuse-no-entry-16-slots", refuse_no_entry_16}, {"refuse-icv", refuse_icv}, {"protect-A.1", protect_a_1}, {"protect-A.2", protect_a_2},
+    {"refuse-no-entry-16-slots", refuse_no_entry_16}, {"refuse-icv", refuse_icv}, {"install", installs}, {"receive-A.1-at-start", receive_at_start}, {"refuse-below-start", refuse_below_start},
+    {"protect-A.1", protect_a_1}, {"protect-A.2", protect_a_2},
     {"protect-2048-suite-1", protect_2048_1}, {"protect-2048-suite-2", protect_2048_2}, {"forget", forget},
     {"capture-report", report_capture}, {"capture-loop", loop_capture}, {"capture-records", walk_capture},
 };

@@ -51,7 +51,7 @@ static int suite;
 static void install(void)
 {
     memset(table, 0, sizeof table);
-    answer = crisp_install(table, 1, keyid, 128, source, 32, (uint8_t)suite, key, 32, 256);
+    answer = crisp_install(table, 1, keyid, 128, source, 32, (uint8_t)suite, key, 32, 256, 0);
 }
 static void receive(void)
 {

@@ -1,10 +1,10 @@
-/* A sender and a gateway in one program: three messages are sent, the second arrives first and once more later, and the entry is listed.
- * Nothing is kept here; examples/kept.c shows how. Build: cc exchange.c $(pkg-config --cflags --libs crisp) */
+/* A sender and a gateway in one program: three messages are sent, the second arrives first and once more later, and the entry is listed. Then a
+ * second gateway takes the first one's place: the old messages do not pass there, the next one does. Nothing is kept here; examples/kept.c shows how. Build: cc exchange.c $(pkg-config --cflags --libs crisp) */
 #include "crisp.h"
 #include <stdio.h>
 #include <string.h>
 
-static uint8_t table[CRISP_TABLE];      /* zeros: an empty table */
+static uint8_t table[CRISP_TABLE], replacement[CRISP_TABLE];    /* zeros: empty tables */
 
 static const uint8_t keyid[] = {0x05};
 static const uint8_t source[] = "meter 0017";
@@ -18,47 +18,65 @@ struct packet {
     size_t length;
 };
 
-static int arrives(const struct packet *p)
+static uint64_t next;                   /* one more than the highest number accepted so far */
+
+static int arrives(uint8_t *gateway, const struct packet *p)
 {
     uint8_t out[CRISP_OUT];
-    struct crisp_answer a = crisp_receive(table, p->bytes, p->length, source, sizeof source - 1, out, sizeof out);
+    struct crisp_answer a = crisp_receive(gateway, p->bytes, p->length, source, sizeof source - 1, out, sizeof out);
     printf("arrival: reply %llu", (unsigned long long)a.reply);
     if (a.reply == CRISP_DONE)
         printf(", slot %zu, number %llu, %zu bytes: %.*s", a.slot, (unsigned long long)a.seqnum, a.length, (int)a.length, (const char *)out);
     printf("\n");
+    if (a.reply == CRISP_DONE && a.seqnum >= next) next = a.seqnum + 1;
+    return (int)a.reply;
+}
+
+static int sends(struct crisp_sender *sender, const char *reading, struct packet *p)
+{
+    struct crisp_answer a = crisp_protect(sender, (const uint8_t *)reading, strlen(reading), p->bytes, sizeof p->bytes);
+    printf("sent: number %llu, %zu bytes\n", (unsigned long long)a.seqnum, a.length);
+    p->length = a.length;
+    return (int)a.reply;
+}
+
+static int lists(const uint8_t *gateway, size_t slot)
+{
+    uint8_t text[CRISP_OUT];
+    struct crisp_answer a = crisp_listing(gateway, slot, text, sizeof text);
+    printf("%.*s", (int)a.length, (const char *)text);
     return (int)a.reply;
 }
 
 int main(void)
 {
     static const char *const readings[] = {"17.3 GJ", "17.9 GJ", "18.4 GJ"};
-    static struct packet packets[3];
+    static struct packet packets[3], forged;
     struct crisp_sender sender = {.flag = 1, .keyid_len = sizeof keyid, .source_len = sizeof source - 1, .suite = 1};
     memcpy(sender.keyid, keyid, sizeof keyid);
     memcpy(sender.source, source, sizeof source - 1);
     memcpy(sender.key, key, sizeof key);
 
-    struct crisp_answer a = crisp_install(table, 1, keyid, sizeof keyid, source, sizeof source - 1, 1, key, sizeof key, 64);
+    struct crisp_answer a = crisp_install(table, 1, keyid, sizeof keyid, source, sizeof source - 1, 1, key, sizeof key, 64, 0);
     if (a.reply != CRISP_DONE) return 1;
     size_t slot = a.slot;
 
-    for (int i = 0; i < 3; i++) {
-        a = crisp_protect(&sender, (const uint8_t *)readings[i], strlen(readings[i]), packets[i].bytes, sizeof packets[i].bytes);
-        if (a.reply != CRISP_DONE) return 1;
-        packets[i].length = a.length;
-        printf("sent: number %llu, %zu bytes\n", (unsigned long long)a.seqnum, a.length);
-    }
-
+    for (int i = 0; i < 3; i++)
+        if (sends(&sender, readings[i], &packets[i]) != CRISP_DONE) return 1;
     int order[] = {1, 0, 1, 2}, expected[] = {CRISP_DONE, CRISP_DONE, CRISP_REPEATED, CRISP_DONE};
     for (int i = 0; i < 4; i++)
-        if (arrives(&packets[order[i]]) != expected[i]) return 1;
-    packets[2].bytes[20] ^= 1;
-    packets[2].bytes[9] += 1;           /* another number, and a check value that cannot be right */
-    if (arrives(&packets[2]) != CRISP_WRONG_ICV) return 1;
+        if (arrives(table, &packets[order[i]]) != expected[i]) return 1;
+    forged = packets[2];
+    forged.bytes[20] ^= 1;
+    forged.bytes[9] += 1;               /* another number, and a check value that cannot be right */
+    if (arrives(table, &forged) != CRISP_WRONG_ICV || lists(table, slot) != CRISP_DONE) return 1;
+    if (crisp_remove(table, slot).reply != CRISP_DONE) return 1;
 
-    uint8_t text[CRISP_OUT];
-    a = crisp_listing(table, slot, text, sizeof text);
+    /* the key has a past: it starts behind all that was accepted, and with start 0 all three would pass once more */
+    a = crisp_install(replacement, 1, keyid, sizeof keyid, source, sizeof source - 1, 1, key, sizeof key, 64, next);
     if (a.reply != CRISP_DONE) return 1;
-    printf("%.*s", (int)a.length, (const char *)text);
-    return crisp_remove(table, slot).reply == CRISP_DONE ? 0 : 1;
+    for (int i = 0; i < 3; i++)
+        if (arrives(replacement, &packets[i]) != CRISP_BELOW_FLOOR) return 1;
+    if (sends(&sender, "18.8 GJ", &packets[0]) != CRISP_DONE || arrives(replacement, &packets[0]) != CRISP_DONE) return 1;
+    return lists(replacement, a.slot) == CRISP_DONE ? 0 : 1;
 }

@@ -101,7 +101,7 @@ static void make(void)
     memcpy(r->keyid, keyid, r->keyid_len = sizeof keyid);
     memcpy(r->source, source, r->source_len = sizeof source);
     r->suite = 1;
-    struct crisp_answer a = crisp_install(gateway.table, 1, keyid, sizeof keyid, source, sizeof source, 1, r->key, sizeof r->key, 64);
+    struct crisp_answer a = crisp_install(gateway.table, 1, keyid, sizeof keyid, source, sizeof source, 1, r->key, sizeof r->key, 64, 0);
     if (a.reply != CRISP_DONE) stop("install", "refused");
     memcpy(gateway.mark, gateway_mark, 16);
     memcpy(sender.mark, sender_mark, 16);

@@ -1,7 +1,7 @@
 /* crisp.h: the receiver and the sender for the metering messages of a heat network (R 1323565.1.029-2019, suites 1 and 2), for C and C++ on
  * x86-64.
  *
- * `./install PREFIX` builds libcrisp_c.a and puts it below PREFIX with this header and a pkg-config file, `crisp`. The five functions are proved;
+ * `./install PREFIX` builds libcrisp_c.a and puts it below PREFIX with this header and a pkg-config file, `crisp`. The seven functions are proved;
  * what each answers, what it leaves in the table or the record, and every byte of a buffer it was lent are those of one definition of its inputs
  * (docs/PROMISES.md).
  *
@@ -29,17 +29,18 @@ extern "C" {
 
 /* The interface's version, 100 times the major one plus the minor one: the first is raised where a call of before has to be written anew or means
  * something else, the second where something was added. */
-#define CRISP_VERSION 101
+#define CRISP_VERSION 200
 
 /* The version of the two layouts, the table's and the record's, raised where either moves. Keep it beside a saved table or record: another
- * layout's bytes are read as something else. */
+ * layout's bytes are read as something else. A table that version 1 of the interface saved is read as it was, with start 0 in every entry; back to
+ * version 1 a table must not go once an entry of it has another start, which that version does not look at. */
 #define CRISP_LAYOUT 1
 
 /* Bytes of a table, and its slots. A table of zeros is an empty one. It may be kept and saved as it is (see "Keys" below). Any bytes are safe to
- * hand in: a record that breaks the damage rule (unsound key data, a highest number and marks that do not fit each other, totals beyond their
- * bounds) is refused with 7; one whose stored KeyId or source is longer than its room matches no message, which is then refused with 6 unless
- * another entry has its name. Other changes, of a byte of a key or of a total within its bounds, are not noticed: whoever saves a table sees to
- * it that it comes back as it was. */
+ * hand in: a record that breaks the damage rule (unsound key data, Size or start, a highest number and marks that do not fit each other, totals
+ * beyond their bounds) is refused with 7; one whose stored KeyId or source is longer than its room matches no message, which is then refused
+ * with 6 unless another entry has its name. Other changes, of a byte of a key or of a total within its bounds, are not noticed: whoever saves a
+ * table sees to it that it comes back as it was. */
 #define CRISP_TABLE 4608
 #define CRISP_SLOTS 16
 
@@ -55,6 +56,9 @@ extern "C" {
 
 /* The largest window. */
 #define CRISP_SIZE 256
+
+/* The greatest number of a message, and the largest start of an entry: 2^48 - 1. */
+#define CRISP_LAST 281474976710655
 
 /* Bytes of the longest capture file, and of its header, behind which its first record is. */
 #define CRISP_CAPTURE 65536
@@ -78,11 +82,11 @@ enum {
     CRISP_NO_ENTRY = 6,         /* no slot matches */
     CRISP_DAMAGED = 7,          /* the entry's record is damaged; of a sender: unsound key data, or a number over 2^48 - 1 */
     CRISP_OTHER_SUITE = 8,      /* suite not the entry's */
-    CRISP_BELOW_FLOOR = 9,      /* number below the window */
+    CRISP_BELOW_FLOOR = 9,      /* number below the window, or below the entry's start */
     CRISP_REPEATED = 10,        /* number accepted before */
     CRISP_WRONG_ICV = 11,       /* check value wrong */
     CRISP_NO_NUMBER = 12,       /* the sender has used number 2^48 - 1 */
-    CRISP_UNSOUND = 13,         /* key data or window size unsound */
+    CRISP_UNSOUND = 13,         /* key data, window size or start unsound */
     CRISP_TWIN = 14,            /* an occupied slot has the same flag and KeyId and, for flag 1, source */
     CRISP_FULL = 15,            /* no free slot */
     CRISP_NO_SLOT = 16,         /* slot over 15, or free */
@@ -170,15 +174,23 @@ CRISP_CHECK(crisp_record_is_laid_out_as_in_the_library,
 #endif
 
 /* Puts a fresh entry into the lowest free slot. flag, keyid, source, suite and the 32-byte key are as in the record above; size is the
- * window's, 1 to 256. Done (0): slot is the slot taken; the entry has highest number 0, nothing accepted, totals 0. Refuses with 13 (key data
- * or size unsound, a flag over 1 with it), 14 (an occupied slot has the same flag and KeyId and, for flag 1, source) and 15 (no free slot), in
- * that order. Touches no other slot. */
+ * window's, 1 to 256; start is the least number that the entry will ever take, 0 to CRISP_LAST. Done (0): slot is the slot taken; the entry has
+ * highest number 0, nothing accepted, totals 0. Refuses with 13 (key data, size or start unsound, a flag over 1 with it), 14 (an occupied slot has
+ * the same flag and KeyId and, for flag 1, source) and 15 (no free slot), in that order. Touches no other slot.
+ *
+ * start is for a key that has a past. Where a key is used for the first time it is 0. Where it comes from another gateway, or its entry was removed
+ * and is installed again, start is one more than the entry's highest number there, and no less than its start there (`highest=`, in hex, and
+ * `start=` of its last listing): then nothing that was handed out there is handed out here. Left at 0 on a replacement gateway, the whole archive
+ * passes once more: each old message is genuine, its number is new to this table, and it is booked a second time. A message below start that the
+ * other gateway never saw is refused too (9), so let it take first what is under way. Where its highest number is not known, or is CRISP_LAST, take
+ * a new key. */
 CRISP_CALL CRISP_READS(3, 4) CRISP_READS(5, 6) CRISP_READS(8, 9)
 struct crisp_answer crisp_install(uint8_t table[CRISP_AT_LEAST CRISP_TABLE], uint8_t flag, const uint8_t *keyid, size_t keyid_len,
-                                  const uint8_t *source, size_t source_len, uint8_t suite, const uint8_t *key, size_t key_len, uint64_t size);
+                                  const uint8_t *source, size_t source_len, uint8_t suite, const uint8_t *key, size_t key_len, uint64_t size,
+                                  uint64_t start);
 
-/* Frees a slot, which then holds zeros only; the entry's history is over. Done (0): slot is the slot freed. Refuses with 16 (slot over 15, or
- * free). Touches no other slot. */
+/* Frees a slot, which then holds zeros only; the entry's history is over, its highest number with it: list it first where the key is to be
+ * installed again. Done (0): slot is the slot freed. Refuses with 16 (slot over 15, or free). Touches no other slot. */
 CRISP_CALL
 struct crisp_answer crisp_remove(uint8_t table[CRISP_AT_LEAST CRISP_TABLE], size_t slot);
 
@@ -220,7 +232,8 @@ struct crisp_answer crisp_listing(const uint8_t table[CRISP_AT_LEAST CRISP_TABLE
  *         if (r.reply == CRISP_DONE) arrives(file + r.message, r.next - r.message, file + r.source, r.message - r.source);
  *
  * Where a record runs past the end, its reply 18 is the last before CRISP_END. What was received before it stands. A file that is read once more,
- * whatever other files came in between, hands out nothing, unless entries were installed or removed since. examples/capture.c among the sources
+ * whatever other files came in between, hands out nothing, unless entries were installed or removed since; an entry that is installed with a
+ * start above the file's numbers hands out nothing of it either. examples/capture.c among the sources
  * reads a file so.
  *
  * The first answers the order of the file's numbers, 1 (highest byte first) or 2 (lowest), or 17 (header bad, or size not 24 to 65,536 bytes). Hand

@@ -31,7 +31,7 @@ static int exchange(void)
 {
     static const char reading[] = "17.3 GJ";
     struct crisp_answer a = crisp_install(table, sender.flag, sender.keyid, sender.keyid_len, sender.source, sender.source_len, sender.suite,
-                                          sender.key, CRISP_KEY, CRISP_SIZE);
+                                          sender.key, CRISP_KEY, CRISP_SIZE, 0);
     if (a.reply != CRISP_DONE) return 1;
     a = crisp_protect(&sender, (const uint8_t *)reading, sizeof reading, message, sizeof message);
     if (a.reply != CRISP_DONE) return 2;

@@ -41,6 +41,11 @@ enum call { INSTALL, REMOVE, RECEIVE, PROTECT, LISTING, CALLS };
 static const char *const call_names[CALLS] = {"install", "remove", "receive", "protect", "listing"};
 static uint64_t replies[CALLS][17], compared;
 
+/* what starts did: kept by an install, refused by one; messages refused with 9 or 7 that would have met another reply with start 0 */
+enum start { KEPT_START, REFUSED_START, BELOW_START, DAMAGED_START, STARTS };
+static const char *const start_names[STARTS] = {"kept", "refused", "above a message", "damaged"};
+static uint64_t by_start[STARTS];
+
 static void differs(const char *what)
 {
     printf("compare: %s differs after\n%.*s\n", what, (int)(traced < sizeof trace ? traced : sizeof trace), trace);
@@ -68,7 +73,7 @@ static void same_outputs(void)
 /* ---- senders with their key data, from which entries are installed */
 
 static struct crisp_sender senders[ENTRIES], ref_senders[ENTRIES];
-static uint64_t sizes[ENTRIES];
+static uint64_t sizes[ENTRIES], starts[ENTRIES];
 
 struct message {
     uint8_t bytes[2048];
@@ -96,6 +101,8 @@ static void make_senders(void)
         fill(s->key, 32);
         s->current = below(4) ? below(8) : (1ULL << 48) - 1 - below(6);
         sizes[i] = widths[below(sizeof widths / sizeof *widths)];
+        starts[i] = below(2) ? 0 : s->current + below(6);
+        if (starts[i] > CRISP_LAST) starts[i] = CRISP_LAST;
     }
     memcpy(ref_senders, senders, sizeof senders);
     keeps = 0;
@@ -103,17 +110,19 @@ static void make_senders(void)
 
 /* ---- the calls */
 
-static void call_install(const struct crisp_sender *s, uint64_t size, size_t key_len)
+static void call_install(const struct crisp_sender *s, uint64_t size, uint64_t start, size_t key_len)
 {
     uint8_t key[40] = {0};
     memcpy(key, s->key, 32);
-    say("install flag=%d suite=%d size=%llu", s->flag, s->suite, (unsigned long long)size);
+    say("install flag=%d suite=%d size=%llu start=%llu", s->flag, s->suite, (unsigned long long)size, (unsigned long long)start);
     say_bytes("keyid", s->keyid, s->keyid_len);
     say_bytes("source", s->source, s->source_len);
     say_bytes("key", key, key_len);
-    struct crisp_answer a = crisp_install(table, s->flag, s->keyid, s->keyid_len, s->source, s->source_len, s->suite, key, key_len, size);
-    struct crisp_answer b = ref_install(ref_table, s->flag, s->keyid, s->keyid_len, s->source, s->source_len, s->suite, key, key_len, size);
+    struct crisp_answer a = crisp_install(table, s->flag, s->keyid, s->keyid_len, s->source, s->source_len, s->suite, key, key_len, size, start);
+    struct crisp_answer b = ref_install(ref_table, s->flag, s->keyid, s->keyid_len, s->source, s->source_len, s->suite, key, key_len, size, start);
     agree(INSTALL, a, b);
+    if (start && !a.reply) by_start[KEPT_START]++;
+    if (start > CRISP_LAST && a.reply == 13) by_start[REFUSED_START]++;
 }
 
 static void call_remove(size_t slot)
@@ -131,6 +140,11 @@ static void call_receive(const uint8_t *message, size_t n, const uint8_t *source
     same_outputs();
     struct crisp_answer a = crisp_receive(table, message, n, source, source_len, out, room);
     agree(RECEIVE, a, ref_receive(ref_table, message, n, source, source_len, ref_out, room));
+    if (a.reply != 9 && a.reply != 7) return;
+    static uint8_t without[CRISP_TABLE], other[ROOM];
+    memcpy(without, ref_table, CRISP_TABLE);
+    for (int i = 0; i < CRISP_SLOTS; i++) memset(without + 288 * i + 206, 0, 8);
+    if (ref_receive(without, message, n, source, source_len, other, room).reply != a.reply) by_start[a.reply == 9 ? BELOW_START : DAMAGED_START]++;
 }
 
 static void call_listing(size_t slot, size_t room)
@@ -182,17 +196,18 @@ static void random_install(void)
 {
     int i = (int)below(ENTRIES);
     struct crisp_sender s = senders[i];
-    uint64_t size = sizes[i];
+    uint64_t size = sizes[i], start = starts[i];
     size_t key_len = 32;
-    switch (below(12)) {
+    switch (below(13)) {
     case 0: s.flag = (uint8_t)below(4); break;
     case 1: s.suite = (uint8_t)below(4); break;
     case 2: s.keyid_len = below(129); break;
     case 3: s.source_len = below(33); break;
     case 4: size = below(3) ? 256 + below(2) : 0; break;
     case 5: key_len = 28 + below(9); break;
+    case 6: start = below(4) ? CRISP_LAST - 1 + below(4) : rnd(); break;
     }
-    call_install(&s, size, key_len);
+    call_install(&s, size, start, key_len);
 }
 
 static void random_receive(void)
@@ -251,7 +266,7 @@ static void random_sequence(uint64_t seed)
     clear_tables();
     make_senders();
     int entries = below(8) ? 1 + (int)below(4) : ENTRIES;
-    for (int i = 0; i < entries; i++) call_install(&senders[i], sizes[i], 32);
+    for (int i = 0; i < entries; i++) call_install(&senders[i], sizes[i], starts[i], 32);
     for (int n = 2 + (int)below(10); n > 0; n--) {
         if (below(4)) random_call();
         else {                                                                  /* a message to an entry that stands, and at once */
@@ -320,7 +335,7 @@ static void sweep_damage(int i)
             say("byte %zu becomes %02x\n", at, table[at]);
             arrives(i, swept_length, senders[i].source_len, 2048);
             call_listing(0, 2048);
-            call_install(&senders[i], sizes[i], 32);
+            call_install(&senders[i], sizes[i], starts[i], 32);
             call_remove(0);
         }
 }
@@ -331,7 +346,7 @@ static void sweep(int i, size_t n)
     fill(payload, n);
     clear_tables();
     traced = 0;
-    call_install(&senders[i], sizes[i], 32);
+    call_install(&senders[i], sizes[i], starts[i], 32);
     if (!next_message(i, payload, n)) return;
     memcpy(saved, table, CRISP_TABLE);
     sweep_message(i);
@@ -348,7 +363,7 @@ static void sweep_payloads(void)
     fill(data, sizeof data);
     for (int i = 0; i < 6; i++) {
         clear_tables();
-        call_install(&senders[i], sizes[i], 32);
+        call_install(&senders[i], sizes[i], starts[i], 32);
         for (size_t n = 0; n <= 2100; n += n > 40 && n < 1880 ? 37 : 1) {
             traced = 0;
             struct crisp_answer a = call_protect(&senders[i], &ref_senders[i], data, n, 2048);
@@ -365,7 +380,7 @@ int main(int argc, char **argv)
     uint64_t sequences = argc > 1 ? strtoull(argv[1], NULL, 0) : 100000, seed = argc > 2 ? strtoull(argv[2], NULL, 0) : 1;
     random_state = seed;
     make_senders();
-    for (int i = 0; i < 8; i++) senders[i].current = ref_senders[i].current = 5;
+    for (int i = 0; i < 8; i++) senders[i].current = ref_senders[i].current = 5, starts[i] = i % 2 ? 6 - (uint64_t)i / 4 : 0;      /* 0, 6 and 5 */
     for (int i = 0; i < 8; i++) sweep(i, 7 * (size_t)i);
     sweep_payloads();
     uint64_t swept = compared;
@@ -382,6 +397,12 @@ int main(int argc, char **argv)
         for (int c = 0; c < CALLS; c++) n += replies[c][r];
         if (!n) printf("reply %d was never given\n", r), missing++;
     }
+    printf("start   ");
+    for (int k = 0; k < STARTS; k++) {
+        printf("  %s: %llu", start_names[k], (unsigned long long)by_start[k]);
+        if (!by_start[k]) missing++;
+    }
+    printf("\n");
     printf("compare: %llu calls in sweeps and %llu in %llu random sequences, no difference\n", (unsigned long long)swept,
            (unsigned long long)(compared - swept), (unsigned long long)sequences);
     return missing ? 1 : 0;

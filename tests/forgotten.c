@@ -14,7 +14,7 @@ static int forgets;
 
 static void install(void)
 {
-    answer = crisp_install(table, 1, sender.keyid, 1, sender.source, 32, sender.suite, sender.key, CRISP_KEY, 64);
+    answer = crisp_install(table, 1, sender.keyid, 1, sender.source, 32, sender.suite, sender.key, CRISP_KEY, 64, 0);
     if (forgets) crisp_forget();
 }
 static void protect(void)

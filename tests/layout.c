@@ -16,7 +16,8 @@ int main(void)
     static uint8_t table[CRISP_TABLE], message[CRISP_OUT], out[CRISP_OUT];
     static struct crisp_sender s = {.flag = 1, .keyid = {0x83, 0xa1, 0xa2, 0xa3}, .keyid_len = 4, .source = "meter 0017", .source_len = 10, .suite = 1};
     for (int i = 0; i < CRISP_KEY; i++) s.key[i] = (uint8_t)(i + 1);
-    struct crisp_answer a = crisp_install(table, s.flag, s.keyid, s.keyid_len, s.source, s.source_len, s.suite, s.key, sizeof s.key, 65);
+    struct crisp_answer a = crisp_install(table, s.flag, s.keyid, s.keyid_len, s.source, s.source_len, s.suite, s.key, sizeof s.key, 65,
+                                          0x7172737475);
     if (a.reply != CRISP_DONE) return 1;
     for (int i = 0; i < 3; i++) {
         s.current += 0x010203040500 / 2;

@@ -156,8 +156,8 @@ static int sound(u8 flag, const u8 *keyid, size_t keyid_len, size_t source_len, 
 
 /* ---- the table: where the parts of an entry stand in its slot (docs/DECISIONS.md, 13) */
 
-enum { SLOT = 288, FLAG = 1, SUITE = 2, KEYID_LEN = 4, KEYID = 5, SOURCE_LEN = 133, SOURCE = 134, KEY = 166, SIZE = 198, HIGHEST = 214, MARKS = 222,
-       ACCEPTED = 254, BYTES = 262 };
+enum { SLOT = 288, FLAG = 1, SUITE = 2, KEYID_LEN = 4, KEYID = 5, SOURCE_LEN = 133, SOURCE = 134, KEY = 166, SIZE = 198, START = 206, HIGHEST = 214,
+       MARKS = 222, ACCEPTED = 254, BYTES = 262 };
 
 #define LAST 0xffffffffffffULL
 
@@ -177,25 +177,31 @@ static int lookup(const u8 *table, u8 flag, const u8 *keyid, size_t keyid_len, c
 
 /* the window, with its marks as 32 bytes: the bit of value 2^i stands for highest - i */
 struct window {
-    u64 size, highest;
+    u64 size, start, highest;
     u8 marks[32];
 };
 
 static struct window window_in(const u8 *s)
 {
-    struct window w = {get(s + SIZE, 8), get(s + HIGHEST, 8), {0}};
+    struct window w = {get(s + SIZE, 8), get(s + START, 8), get(s + HIGHEST, 8), {0}};
     memcpy(w.marks, s + MARKS, 32);
     return w;
 }
 
-static u64 floor_of(const struct window *w) { return w->highest + 1 > w->size ? w->highest + 1 - w->size : 0; }
+/* document 02, No. 2: the larger of start and what the scope says */
+static u64 floor_of(const struct window *w)
+{
+    u64 old = w->highest + 1 > w->size ? w->highest + 1 - w->size : 0;
+    return old > w->start ? old : w->start;
+}
+
 static int mark(const struct window *w, u64 i) { return i < 256 && w->marks[31 - i / 8] >> i % 8 & 1; }
 
 static int undamaged(const u8 *s)
 {
     if (!sound(s[FLAG], s + KEYID, s[KEYID_LEN], s[SOURCE_LEN], s[SUITE], 32)) return 0;
     struct window w = window_in(s);
-    if (w.size < 1 || w.size > 256 || w.highest > LAST) return 0;
+    if (w.size < 1 || w.size > 256 || w.start > LAST || w.highest > LAST) return 0;
     u64 floor = floor_of(&w), count = 0;
     for (u64 i = 0; i < 256; i++) {
         if (!mark(&w, i)) continue;
@@ -204,7 +210,7 @@ static int undamaged(const u8 *s)
     }
     if (w.highest > 0 && !mark(&w, 0)) return 0;
     u64 accepted = get(s + ACCEPTED, 8);
-    if (accepted < count || accepted > count + floor) return 0;
+    if (accepted < count || accepted > count + floor - w.start) return 0;
     return get(s + BYTES, 8) <= 2034 * accepted;        /* accepted is below 2^49 here */
 }
 
@@ -234,9 +240,10 @@ static void take(u8 *s, u64 seqnum, u64 length)
 
 /* ---- the five functions */
 
-answer ref_install(u8 *table, u8 flag, const u8 *keyid, size_t keyid_len, const u8 *source, size_t source_len, u8 suite, const u8 *key, size_t key_len, u64 size)
+answer ref_install(u8 *table, u8 flag, const u8 *keyid, size_t keyid_len, const u8 *source, size_t source_len, u8 suite, const u8 *key, size_t key_len, u64 size,
+                   u64 start)
 {
-    if (!sound(flag, keyid, keyid_len, source_len, suite, key_len) || size < 1 || size > 256) return refuse(13);
+    if (!sound(flag, keyid, keyid_len, source_len, suite, key_len) || size < 1 || size > 256 || start > LAST) return refuse(13);
     if (lookup(table, flag, keyid, keyid_len, source, source_len) >= 0) return refuse(14);
     for (size_t i = 0; i < 16; i++) {
         u8 *s = table + SLOT * i;
@@ -251,6 +258,7 @@ answer ref_install(u8 *table, u8 flag, const u8 *keyid, size_t keyid_len, const 
         memcpy(s + SOURCE, source, source_len);
         memcpy(s + KEY, key, 32);
         set(s + SIZE, 8, size);
+        set(s + START, 8, start);
         return done(0, i, 0);
     }
     return refuse(15);
@@ -322,7 +330,8 @@ answer ref_listing(const u8 *table, size_t slot, u8 *out, size_t out_len)
     for (int i = 0; i < s[KEYID_LEN]; i++) p += sprintf(p, "%02x", s[KEYID + i]);
     p += sprintf(p, "\nsource=");
     for (int i = 0; i < s[SOURCE_LEN]; i++) p += sprintf(p, "%02x", s[SOURCE + i]);
-    p += sprintf(p, "\nsuite=%d\nsize=%llu\nhighest=%012llx\nmarks=", s[SUITE], (unsigned long long)get(s + SIZE, 8), (unsigned long long)get(s + HIGHEST, 8));
+    p += sprintf(p, "\nsuite=%d\nsize=%llu\nstart=%llu\nhighest=%012llx\nmarks=", s[SUITE], (unsigned long long)get(s + SIZE, 8),
+                 (unsigned long long)get(s + START, 8), (unsigned long long)get(s + HIGHEST, 8));
     for (int i = 0; i < 32; i++) p += sprintf(p, "%02x", s[MARKS + i]);
     p += sprintf(p, "\naccepted=%llu\nbytes=%llu\n", (unsigned long long)get(s + ACCEPTED, 8), (unsigned long long)get(s + BYTES, 8));
     memcpy(out, text, (size_t)(p - text));
