@@ -4,13 +4,14 @@
 use mathlib.Core.Path.{_≡_, refl, sym, ap, subst, _∙_}
 use mathlib.Core.Bool.{Bool, true, false, true≢false, false≢true, not-eq-not, cond, _&&_}
 use mathlib.Core.List.{List, [], _∷_, _++_}
-use Prim.Native.Nat.{ℕ, _+_, _≤_, _<_}
+use Prim.Native.Nat.{ℕ, _≤_, _<_}
 use native.Mathlib.Decide.{ℕ-discrete}
 use native.Mathlib.Omega.{arith}
 use borrow.Author.Tests.{eq-eqb, ltb-false, le-ltb}
 use lib.Dec.{eqb, ltb}
 use lib.ListN.{length}
 use Rattle.numbers.proofs.Tests.{neither-left, neither-right}
+use Rattle.octets.specs.Octets.{Bytes}
 use Rattle.answers.specs.Answers.{outputRoom}
 use Rattle.answers.specs.declared.Answer.{Answer}
 use Rattle.window.specs.Window.{floorAt}
@@ -262,6 +263,17 @@ handed-at : (i : ℕ) (t m source out : List ℕ) → let a = received t m sourc
     → handed i t (arrival m source out) ≡ one (record { number = a .seqnum; payload = a .length })
 handed-at i t m source out done at = let a = received t m source out .answer in rw (eq-eqb (a .reply) 0 done, eq-eqb (a .slot) i (sym at))
 
+-- On any table, an arrival that is answered 0 is new to what stood in its slot.
+pub taken-new : (t : List ℕ) → length t ≡ tableLength → (m source out : List ℕ) → Bytes m
+    → let a = received t m source out .answer in let s = slotOf t (a .slot) in
+    a .reply ≡ 0 → told (standing (keyDataOf s) (entryOf s)) [] (arrival m source out) ≡ new (record { number = a .seqnum; payload = a .length })
+taken-new t long m source out bytes done =
+    let call = arrival m source out in
+    let a = received t m source out .answer in
+    let begins = opens-begins t long m source out (a .slot) (comes t long m source out .opens done) in
+    counted-told (told (standing (keyDataOf (slotOf t (a .slot))) (entryOf (slotOf t (a .slot)))) [] call) (record { number = a .seqnum; payload = a .length })
+    (sym (step (begun begins) call bytes refl .gives) ∙ handed-at (a .slot) t m source out done refl)
+
 -- none of those that follow hands out a number that was counted
 spared : (b : Beginning) (a : Answer) {t : List ℕ} {past : List Told} → Stands b (a .slot) t past → isIn (a .seqnum) (numbers past) ≡ true
     → (cs : List Call) → AllArrive cs → Spared a (results t cs)
@@ -290,10 +302,7 @@ books-once t long (arrival m source out ∷ cs) all =
           let i = a .slot in
           let begins = opens-begins t long m source out i (coming .opens done) in
           let b = standing (keyDataOf (slotOf t i)) (entryOf (slotOf t i)) in
-          let next = step (begun begins) call (all .0) refl in
-          let x : Message = record { number = a .seqnum; payload = a .length } in
-          let counted = counted-told (told b [] call) x (sym (next .gives) ∙ handed-at i t m source out done refl) in
-          spared b a (next .stands) (rw (counted, eq-eqb (a .seqnum) (a .seqnum) refl)) cs (all .1),
+          spared b a (step (begun begins) call (all .0) refl .stands) (rw (taken-new t long m source out (all .0) done, eq-eqb (a .seqnum) (a .seqnum) refl)) cs (all .1),
       books-once (after t call) (coming .unmoved .long) cs (all .1),
     )
 books-once t long (install k f ∷ cs) all = absurd (all .0)

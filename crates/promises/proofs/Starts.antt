@@ -19,12 +19,13 @@ use Rattle.format.specs.KeyData.{KeyData}
 use Rattle.format.specs.Suite.{numberOf}
 use Rattle.format.specs.declared.header.Header.{Header}
 use Rattle.format.specs.declared.header.Parsed.the-variants.{Read}
-use Rattle.slots.specs.Table.{slotOf, windowOf, tableLength}
+use Rattle.slots.specs.Table.{slotOf, keyDataOf, windowOf, entryOf, tableLength}
 use Rattle.entries.specs.Install.{doneAt}
-use Rattle.gateway.specs.Receive.{Received}
+use Rattle.gateway.specs.Receive.{Received, received}
 use Rattle.promises.specs.Calls.{Call, arrival, install, OfBytes, called, run, Trace, lastOf}
-use Rattle.promises.specs.Counted.{Beginning, fresh, Message, numbersOf, numbers, highestOf, isIn, highestSince, isBelow, isOf, Told, apart, below, used, forged, new, told, toldFrom, toldBy, counted}
+use Rattle.promises.specs.Counted.{Beginning, fresh, standing, Message, numbersOf, numbers, highestOf, isIn, highestSince, isBelow, isOf, Told, apart, below, used, forged, new, told, toldFrom, toldBy, counted}
 use Rattle.promises.specs.History.{Begins, one, handed, handedBy, Unended, GoesOn, NotAgain}
+use Rattle.promises.proofs.Arrivals.{taken-new}
 use Rattle.promises.proofs.Counting.{counted-new, counted-told}
 use Rattle.promises.proofs.History.{history, history-traced, installed-traced}
 
@@ -75,6 +76,15 @@ counted-once b c cs ds lower n first =
 
 -- ---- what is handed out
 
+-- On any table, whatever else is in it, no message is handed out at an entry whose start lies above its number.
+pub taken-from-start : (t : List ℕ) → length t ≡ tableLength → (message source out : List ℕ) → Bytes message
+    → let a = received t message source out .answer in a .reply ≡ 0 → windowOf (slotOf t (a .slot)) .frame .start ≤ a .seqnum
+taken-from-start t long message source out bytes done =
+    let a = received t message source out .answer in
+    let s = slotOf t (a .slot) in
+    let new = taken-new t long message source out bytes done in
+    reached-start (standing (keyDataOf s) (entryOf s)) [] (a .seqnum) (counted-new (standing (keyDataOf s) (entryOf s)) [] (arrival message source out) _ new .reached)
+
 module _ {b : Beginning} {i : ℕ} {t : List ℕ} (begins : Begins b i t) (cs : List Call) (goes : GoesOn i t cs) where
   -- A message below the start is never handed out at the entry,
   pub none-below-start : (c : Call) → OfBytes c → (x : Message) → handed i (run t cs) c ≡ one x → b .frame .start ≤ x .number
@@ -94,15 +104,20 @@ module _ {b : Beginning} {i : ℕ} {t : List ℕ} (begins : Begins b i t) (cs : 
       history begins cs goes .replies message source out bytes room h read mine
       ∙ rw (le-ltb (length out) outputRoom room, read, mine, suite, under)
 
--- A key moves: one gateway made calls cs; another installs key data with a start above the highest number that the first then has, and makes
--- calls ds. Nothing that the first handed out is handed out by the second.
-pub moved-key : {b : Beginning} {i : ℕ} {t : List ℕ} → Begins b i t → (cs : List Call) (rs : List Received) → Trace t cs rs → Unended i cs rs
-    → (u : List ℕ) → length u ≡ tableLength → (k : KeyData) (f : Frame) → Bytes (k .keyId) → (j : ℕ)
-    → (r : Received) (ds : List Call) (qs : List Received) → Trace u (install k f ∷ ds) (r ∷ qs) → r .answer ≡ doneAt j → Unended j ds qs
-    → windowOf (slotOf (lastOf t rs) i) .highest < f .start
-    → NotAgain (handedBy i [] cs rs) (handedBy j [] ds qs)
-moved-key {b} begins cs rs trace unended u long k f bytes j r ds qs made done going above =
-    let first = history-traced begins cs rs trace unended in
-    let second = installed-traced u long k f bytes j r ds qs made done going in
-    rw (first .1, second .1)
-    (counted-once b (fresh k f) cs ds (λ n e. omega (arith, counted-most n (numbers (toldBy b cs)) e, first .0 .highest)))
+-- ---- a key that moves
+
+-- One gateway made calls cs. Another, or the same after a removal, installs key data with some start, and makes calls ds.
+module _ {b : Beginning} {i : ℕ} {t : List ℕ} (begins : Begins b i t) (cs : List Call) (rs : List Received) (trace : Trace t cs rs) (unended : Unended i cs rs)
+    (u : List ℕ) (long : length u ≡ tableLength) (k : KeyData) (f : Frame) (bytes : Bytes (k .keyId)) (j : ℕ)
+    (r : Received) (ds : List Call) (qs : List Received) (made : Trace u (install k f ∷ ds) (r ∷ qs)) (done : r .answer ≡ doneAt j) (going : Unended j ds qs) where
+  -- Where the start lies above every number that the first handed out, nothing of that is handed out by the second;
+  pub moved-key : ((n : ℕ) → isIn n (numbersOf (handedBy i [] cs rs)) ≡ true → n < f .start) → NotAgain (handedBy i [] cs rs) (handedBy j [] ds qs)
+  moved-key lower =
+      let first = history-traced begins cs rs trace unended .1 in
+      rw (first, installed-traced u long k f bytes j r ds qs made done going .1) (counted-once b (fresh k f) cs ds (rw first at lower))
+
+  -- and so it is where the start lies above the highest number that the first then has.
+  pub moved-highest : windowOf (slotOf (lastOf t rs) i) .highest < f .start → NotAgain (handedBy i [] cs rs) (handedBy j [] ds qs)
+  moved-highest above =
+      let first = history-traced begins cs rs trace unended in
+      moved-key (rw (first .1) (λ n e. omega (arith, counted-most n (numbers (toldBy b cs)) e, first .0 .highest)))

@@ -11,7 +11,7 @@ use lib.Dec.{eqb}
 use lib.Pow.{pow-pos}
 use Rattle.window.specs.declared.Frame.{Frame}
 use Rattle.window.specs.declared.Verdict.the-variants.{Below, Admissible}
-use Rattle.window.specs.Window.{View, floorOf, marked, verdictOf, moved, acceptOf, freshOf}
+use Rattle.window.specs.Window.{View, floorOf, verdictOf, moved, acceptOf, freshOf}
 use Rattle.window.proofs.Floor.{floor-start, floor-le}
 use Rattle.window.proofs.Marks.{says-below, says-admissible, no-mark}
 use Rattle.window.proofs.Undamaged.{UndamagedWindow}
