@@ -101,7 +101,7 @@ static void make_senders(void)
         fill(s->key, 32);
         s->current = below(4) ? below(8) : (1ULL << 48) - 1 - below(6);
         sizes[i] = widths[below(sizeof widths / sizeof *widths)];
-        starts[i] = below(2) ? 0 : s->current + below(6);
+        starts[i] = below(3) ? 0 : s->current + below(4);
         if (starts[i] > CRISP_LAST) starts[i] = CRISP_LAST;
     }
     memcpy(ref_senders, senders, sizeof senders);
@@ -351,6 +351,7 @@ static void sweep(int i, size_t n)
     memcpy(saved, table, CRISP_TABLE);
     sweep_message(i);
     sweep_room(i, payload, n);
+    sweep_damage(i);                                                            /* a fresh entry, and one that has taken a message */
     back();
     for (int twice = 0; twice < 2; twice++) arrives(i, swept_length, senders[i].source_len, 2048);      /* and replayed */
     memcpy(saved, table, CRISP_TABLE);
