@@ -28,6 +28,9 @@ int main(void)
     sender.suite = 1;
     a = crisp_install(table, 0, sender.keyid, sender.keyid_len, sender.source, sender.source_len, sender.suite, sender.key, CRISP_KEY, CRISP_SIZE, 0);
     if (a.reply != CRISP_DONE || a.slot >= CRISP_SLOTS) return 1;
+    a = crisp_install(table, 0, sender.keyid, sender.keyid_len, sender.source, sender.source_len, sender.suite, sender.key, CRISP_KEY, CRISP_SIZE,
+                      CRISP_LAST + 1);
+    if (a.reply != CRISP_UNSOUND) return 9;
     a = crisp_protect(&sender, CRISP_NOTHING, 0, message, sizeof message);
     if (a.reply != CRISP_DONE) return 2;
     a = crisp_receive(table, message, a.length, SOURCE, 0, out, sizeof out);
