@@ -251,8 +251,8 @@ static const struct {
     {"block", block}, {"check-2048", check_2048}, {"counter-2048", counter_2048}, {"keys-suite-1", keys_suite_1}, {"keys-suite-2", keys_suite_2},
     {"receive-A.1", receive_a_1}, {"receive-A.2", receive_a_2}, {"receive-2048-suite-1", receive_2048_1}, {"receive-2048-suite-2", receive_2048_2},
     {"receive-A.1-slot-15", receive_slot_15}, {"refuse-version", refuse_version}, {"refuse-no-entry", refuse_no_entry},
-    {"refuse-no-entry-16-slots", refuse_no_entry_16}, {"refuse-icv", refuse_icv}, {"install", installs}, {"receive-A.1-at-start", receive_at_start}, {"refuse-below-start", refuse_below_start},
-    {"protect-A.1", protect_a_1}, {"protect-A.2", protect_a_2},
+    {"refuse-no-entry-16-slots", refuse_no_entry_16}, {"refuse-icv", refuse_icv}, {"install", installs},
+    {"receive-A.1-at-start", receive_at_start}, {"refuse-below-start", refuse_below_start}, {"protect-A.1", protect_a_1}, {"protect-A.2", protect_a_2},
     {"protect-2048-suite-1", protect_2048_1}, {"protect-2048-suite-2", protect_2048_2}, {"forget", forget},
     {"capture-report", report_capture}, {"capture-loop", loop_capture}, {"capture-records", walk_capture},
 };

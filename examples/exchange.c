@@ -1,5 +1,6 @@
 /* A sender and a gateway in one program: three messages are sent, the second arrives first and once more later, and the entry is listed. Then a
- * second gateway takes the first one's place: the old messages do not pass there, the next one does. Nothing is kept here; examples/kept.c shows how. Build: cc exchange.c $(pkg-config --cflags --libs crisp) */
+ * second gateway takes the first one's place: the old messages do not pass there, the next one does. Nothing is kept here; examples/kept.c shows how.
+ * Build: cc exchange.c $(pkg-config --cflags --libs crisp) */
 #include "crisp.h"
 #include <stdio.h>
 #include <string.h>
@@ -35,7 +36,7 @@ static int arrives(uint8_t *gateway, const struct packet *p)
 static int sends(struct crisp_sender *sender, const char *reading, struct packet *p)
 {
     struct crisp_answer a = crisp_protect(sender, (const uint8_t *)reading, strlen(reading), p->bytes, sizeof p->bytes);
-    printf("sent: number %llu, %zu bytes\n", (unsigned long long)a.seqnum, a.length);
+    if (a.reply == CRISP_DONE) printf("sent: number %llu, %zu bytes\n", (unsigned long long)a.seqnum, a.length);
     p->length = a.length;
     return (int)a.reply;
 }

@@ -5,8 +5,8 @@
  * what each answers, what it leaves in the table or the record, and every byte of a buffer it was lent are those of one definition of its inputs
  * (docs/PROMISES.md).
  *
- * All functions: no input has to be checked first, and every call returns. A refusal answers its number with length, slot and seqnum 0, and
- * changes nothing: not the table, not the record, not the output. One table or one record is used by one call at a time; there is no other
+ * All functions: no input has to be checked first, and every call returns. Those on a table or a record answer a refusal by its number, with
+ * length, slot and seqnum 0, and it changes nothing: not the table, not the record, not the output. One table or one record is used by one call at a time; there is no other
  * state, so different tables may be used at once. Keys are handed in as bytes and are copied into the table; a removed entry leaves zeros.
  *
  * Pointers: each points to as many bytes as its length says, at any address; a record is aligned as its type is. None may be null, not even with
@@ -96,7 +96,7 @@ enum {
     CRISP_UNREADABLE = 20       /* a record is empty, or its identifier runs past it */
 };
 
-/* What every function answers. */
+/* What every function on a table or a record answers. */
 struct crisp_answer {
     uint64_t reply;
     size_t length;
@@ -175,15 +175,15 @@ CRISP_CHECK(crisp_record_is_laid_out_as_in_the_library,
 
 /* Puts a fresh entry into the lowest free slot. flag, keyid, source, suite and the 32-byte key are as in the record above; size is the
  * window's, 1 to 256; start is the least number that the entry will ever take, 0 to CRISP_LAST. Done (0): slot is the slot taken; the entry has
- * highest number 0, nothing accepted, totals 0. Refuses with 13 (key data, size or start unsound, a flag over 1 with it), 14 (an occupied slot has
- * the same flag and KeyId and, for flag 1, source) and 15 (no free slot), in that order. Touches no other slot.
+ * highest number 0, nothing accepted, totals 0. Refuses with 13 (key data unsound, a flag over 1 with it, or size or start out of range), 14 (an
+ * occupied slot has the same flag and KeyId and, for flag 1, source) and 15 (no free slot), in that order. Touches no other slot.
  *
- * start is for a key that has a past. Where a key is used for the first time it is 0. Where it comes from another gateway, or its entry was removed
- * and is installed again, start is one more than the entry's highest number there, and no less than its start there (`highest=`, in hex, and
- * `start=` of its last listing): then nothing that was handed out there is handed out here. Left at 0 on a replacement gateway, the whole archive
- * passes once more: each old message is genuine, its number is new to this table, and it is booked a second time. A message below start that the
- * other gateway never saw is refused too (9), so let it take first what is under way. Where its highest number is not known, or is CRISP_LAST, take
- * a new key. */
+ * start is for a key that has a past. For a key that is used for the first time it is 0. For a key that comes from another gateway, or whose entry
+ * was removed and is installed again, it is the larger of two numbers of the old entry: its start, and one more than its highest number (`start=`, in
+ * decimal, and `highest=`, in hex, of a listing that was made after its last arrival). Then nothing that was handed out there is handed out here.
+ * Left at 0 on a replacement gateway, the whole archive passes once more: each old message is genuine, its number is new to this table, and it is
+ * booked a second time. A message below start that the old entry never took is refused too (9), so let the old gateway first take what is under
+ * way. Where its highest number is not known, or is CRISP_LAST, take a new key. */
 CRISP_CALL CRISP_READS(3, 4) CRISP_READS(5, 6) CRISP_READS(8, 9)
 struct crisp_answer crisp_install(uint8_t table[CRISP_AT_LEAST CRISP_TABLE], uint8_t flag, const uint8_t *keyid, size_t keyid_len,
                                   const uint8_t *source, size_t source_len, uint8_t suite, const uint8_t *key, size_t key_len, uint64_t size,
@@ -232,9 +232,8 @@ struct crisp_answer crisp_listing(const uint8_t table[CRISP_AT_LEAST CRISP_TABLE
  *         if (r.reply == CRISP_DONE) arrives(file + r.message, r.next - r.message, file + r.source, r.message - r.source);
  *
  * Where a record runs past the end, its reply 18 is the last before CRISP_END. What was received before it stands. A file that is read once more,
- * whatever other files came in between, hands out nothing, unless entries were installed or removed since; an entry that is installed with a
- * start above the file's numbers hands out nothing of it either. examples/capture.c among the sources
- * reads a file so.
+ * whatever other files came in between, hands out nothing, unless entries were installed or removed since; an entry that is installed with a start
+ * above the file's numbers hands out nothing of it either. examples/capture.c among the sources reads a file so.
  *
  * The first answers the order of the file's numbers, 1 (highest byte first) or 2 (lowest), or 17 (header bad, or size not 24 to 65,536 bytes). Hand
  * the order to the second as it came. */

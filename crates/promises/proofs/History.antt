@@ -27,7 +27,7 @@ use Rattle.lookup.specs.declared.Found.the-variants.{At}
 use Rattle.entries.specs.Install.{doneAt, installed}
 use Rattle.gateway.specs.Receive.{Received, kept, parsed, received}
 use Rattle.gateway.proofs.Cascade.{NotSeven, never-seven}
-use Rattle.promises.specs.Calls.{Call, arrival, install, OfBytes, AllOfBytes, called, after, run, results, Trace, lastOf}
+use Rattle.promises.specs.Calls.{Call, arrival, install, OfBytes, AllOfBytes, called, after, run, results, Allowed, Trace, lastOf}
 use Rattle.promises.specs.Counted.{Beginning, fresh, Message, messages, numbers, highestOf, isIn, isBelow, isUsed, isOf, Told, apart, new, tested, toldOf, told, toldFrom, toldBy, counted, isGenuine}
 use Rattle.promises.specs.History.{Begins, nothing, one, handed, handedBy, Unended, GoesOn, countedOf, different, total, Accounts}
 use Rattle.promises.specs.Replies.{noneOf, receiveReplies, ledTo, isAt}
@@ -178,12 +178,14 @@ module _ (t : List ℕ) (long : length t ≡ tableLength) (k : KeyData) (f : Fra
   history-installed done cs goes = history (install-begins t long k f bytes i done) cs goes
 
   -- and of calls that were made, the first of them such an install
+  pub installed-begins : (r : Received) → Allowed t (install k f) r → r .answer ≡ doneAt i → Begins (fresh k f) i (r .table)
+  installed-begins r allowed done =
+      let is = allowed-called t (install k f) r allowed in
+      subst (λ (x : Received). Begins (fresh k f) i (x .table)) (sym is) (install-begins t long k f bytes i (sym (ap (λ (x : Received). x .answer) is) ∙ done))
+
   pub installed-traced : (r : Received) (cs : List Call) (rs : List Received) → Trace t (install k f ∷ cs) (r ∷ rs) → r .answer ≡ doneAt i → Unended i cs rs
       → Accounts (fresh k f) i (lastOf t (r ∷ rs)) (toldBy (fresh k f) cs) × (handedBy i [] cs rs ≡ counted (fresh k f) cs)
-  installed-traced r cs rs trace done unended =
-      let is = allowed-called t (install k f) r (trace .0) in
-      let begins = install-begins t long k f bytes i (sym (ap (λ (x : Received). x .answer) is) ∙ done) in
-      history-traced (subst (λ (x : Received). Begins (fresh k f) i (x .table)) (sym is) begins) cs rs (trace .1) unended
+  installed-traced r cs rs trace done unended = history-traced (installed-begins r (trace .0) done) cs rs (trace .1) unended
 
 -- The same for an install anywhere in a sequence of calls on a table: whatever calls came before it, a removal of the same slot among them.
 pub history-within : (t : List ℕ) → length t ≡ tableLength → (before : List Call) → AllOfBytes before

@@ -23,11 +23,11 @@ use Rattle.slots.specs.Table.{slotOf, keyDataOf, windowOf, entryOf, tableLength
 use Rattle.entries.specs.Install.{doneAt}
 use Rattle.gateway.specs.Receive.{Received, received}
 use Rattle.promises.specs.Calls.{Call, arrival, install, OfBytes, called, run, Trace, lastOf}
-use Rattle.promises.specs.Counted.{Beginning, fresh, standing, Message, numbersOf, numbers, highestOf, isIn, highestSince, isBelow, isOf, Told, apart, below, used, forged, new, told, toldFrom, toldBy, counted}
+use Rattle.promises.specs.Counted.{Beginning, standing, Message, numbersOf, numbers, highestOf, isIn, highestSince, isBelow, isOf, Told, apart, below, used, forged, new, told, toldFrom, toldBy}
 use Rattle.promises.specs.History.{Begins, one, handed, handedBy, Unended, GoesOn, NotAgain}
 use Rattle.promises.proofs.Arrivals.{taken-new}
 use Rattle.promises.proofs.Counting.{counted-new, counted-told}
-use Rattle.promises.proofs.History.{history, history-traced, installed-traced}
+use Rattle.promises.proofs.History.{history, history-traced, installed-begins}
 
 -- ---- what is counted
 
@@ -68,12 +68,6 @@ counted-most n (m ∷ ms) e = at (eqb n m) refl (counted-most n ms) e
     at true r rest s = omega (arith, eqb-true n m r)
     at false r rest s = omega (arith, rest s)
 
--- Where the start of one beginning lies above all that was counted since another, nothing is counted since both.
-pub counted-once : (b c : Beginning) (cs ds : List Call) → ((n : ℕ) → isIn n (numbersOf (counted b cs)) ≡ true → n < c .frame .start)
-    → NotAgain (counted b cs) (counted c ds)
-counted-once b c cs ds lower n first =
-    not-eq-not .0 (λ second. omega (arith, lower n first, all-above c [] (λ m e. absurd (true≢false (sym e))) ds n second))
-
 -- ---- what is handed out
 
 -- On any table, whatever else is in it, no message is handed out at an entry whose start lies above its number.
@@ -104,20 +98,26 @@ module _ {b : Beginning} {i : ℕ} {t : List ℕ} (begins : Begins b i t) (cs : 
       history begins cs goes .replies message source out bytes room h read mine
       ∙ rw (le-ltb (length out) outputRoom room, read, mine, suite, under)
 
+-- Of calls that were made: no number that they handed out at the entry is below its start.
+pub handed-from-start : {b : Beginning} {i : ℕ} {t : List ℕ} → Begins b i t → (cs : List Call) (rs : List Received) → Trace t cs rs → Unended i cs rs
+    → (n : ℕ) → isIn n (numbersOf (handedBy i [] cs rs)) ≡ true → b .frame .start ≤ n
+handed-from-start {b} begins cs rs trace unended n there =
+    all-above b [] (λ m e. absurd (true≢false (sym e))) cs n (rw (history-traced begins cs rs trace unended .1) at there)
+
 -- ---- a key that moves
 
--- One gateway made calls cs. Another, or the same after a removal, installs key data with some start, and makes calls ds.
-module _ {b : Beginning} {i : ℕ} {t : List ℕ} (begins : Begins b i t) (cs : List Call) (rs : List Received) (trace : Trace t cs rs) (unended : Unended i cs rs)
-    (u : List ℕ) (long : length u ≡ tableLength) (k : KeyData) (f : Frame) (bytes : Bytes (k .keyId)) (j : ℕ)
+-- A gateway installs key data with a start and makes calls ds.
+module _ (u : List ℕ) (long : length u ≡ tableLength) (k : KeyData) (f : Frame) (bytes : Bytes (k .keyId)) (j : ℕ)
     (r : Received) (ds : List Call) (qs : List Received) (made : Trace u (install k f ∷ ds) (r ∷ qs)) (done : r .answer ≡ doneAt j) (going : Unended j ds qs) where
-  -- Where the start lies above every number that the first handed out, nothing of that is handed out by the second;
-  pub moved-key : ((n : ℕ) → isIn n (numbersOf (handedBy i [] cs rs)) ≡ true → n < f .start) → NotAgain (handedBy i [] cs rs) (handedBy j [] ds qs)
-  moved-key lower =
-      let first = history-traced begins cs rs trace unended .1 in
-      rw (first, installed-traced u long k f bytes j r ds qs made done going .1) (counted-once b (fresh k f) cs ds (rw first at lower))
+  -- Of what was handed out elsewhere, at any gateways and under any histories, nothing is handed out here, if the start lies above its numbers;
+  pub moved-key : (elsewhere : List Message) → ((n : ℕ) → isIn n (numbersOf elsewhere) ≡ true → n < f .start) → NotAgain elsewhere (handedBy j [] ds qs)
+  moved-key elsewhere lower n there =
+      not-eq-not .0
+      (λ here. omega (arith, lower n there, handed-from-start (installed-begins u long k f bytes j r (made .0) done) ds qs (made .1) going n here))
 
-  -- and so it is where the start lies above the highest number that the first then has.
-  pub moved-highest : windowOf (slotOf (lastOf t rs) i) .highest < f .start → NotAgain (handedBy i [] cs rs) (handedBy j [] ds qs)
-  moved-highest above =
+  -- nothing, then, of what calls cs handed out at an entry whose highest number after them is below the start.
+  pub moved-highest : {b : Beginning} {i : ℕ} {t : List ℕ} → Begins b i t → (cs : List Call) (rs : List Received) → Trace t cs rs → Unended i cs rs
+      → windowOf (slotOf (lastOf t rs) i) .highest < f .start → NotAgain (handedBy i [] cs rs) (handedBy j [] ds qs)
+  moved-highest {b} {i} begins cs rs trace unended above =
       let first = history-traced begins cs rs trace unended in
-      moved-key (rw (first .1) (λ n e. omega (arith, counted-most n (numbers (toldBy b cs)) e, first .0 .highest)))
+      moved-key (handedBy i [] cs rs) (rw (first .1) (λ n e. omega (arith, counted-most n (numbers (toldBy b cs)) e, first .0 .highest)))

@@ -125,7 +125,7 @@ receiveReplies t m source out =
     ∷ reply 7 (not (undamaged s))
     -- CS not the entry's
     ∷ reply 8 (not (eqb (csOf s) (csIn m)))
-    -- number below the floor
+    -- number below the floor; "a number below start gives 9" (02, No. 2)
     ∷ reply 9 (ltb (seqNumIn m) (floorOf (windowOf s)))
     -- number marked
     ∷ reply 10 (marked (windowOf s) (seqNumIn m))
@@ -137,7 +137,7 @@ receiveReplies t m source out =
 
 unfoldable pub installReplies : List ℕ → KeyData → Frame → List Reply
 installReplies t k f =
-    -- key data unsound, Size and start with it
+    -- key data unsound, Size with it; "a larger start gives 13 at install" (02, No. 2)
     reply 13 (not (soundOf k && soundFrame f))
     -- an occupied slot has the same flag and KeyId and, for flag 1, source
     ∷ reply 14 (not (isNothing (leadsTo t (k .flag) (k .keyId) (k .source))))

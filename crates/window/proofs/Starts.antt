@@ -1,6 +1,6 @@
 -- The start of a window. Below it nothing is admissible. A window that has accepted nothing takes any number from its start on, and that becomes
--- the highest, alone marked. Where the floor lies above the highest number, as a start can bring it, the damage rule leaves no mark and no highest. And
--- a window that starts behind another refuses all that the other refuses.
+-- the highest, alone marked. Where the floor lies above the highest number, as a start can bring it, the damage rule leaves no mark, and the highest
+-- number is 0. And a window that starts behind another refuses all that the other refuses.
 -- Assumes nothing.
 use mathlib.Core.Path.{_≡_, refl, sym, _∙_}
 use mathlib.Core.Bool.{Bool, true, false, false≢true}
@@ -13,7 +13,7 @@ use lib.Dec.{eqb}
 use lib.Pow.{pow-pos}
 use Rattle.window.specs.declared.Frame.{Frame}
 use Rattle.window.specs.declared.Verdict.the-variants.{Below, Admissible}
-use Rattle.window.specs.Window.{View, floorOf, verdictOf, moved, acceptOf, freshOf}
+use Rattle.window.specs.Window.{View, floorAt, floorOf, verdictOf, moved, acceptOf, freshOf}
 use Rattle.window.proofs.Floor.{floor-start, floor-le}
 use Rattle.window.proofs.Marks.{says-below, says-admissible, marked-above, no-mark}
 use Rattle.window.proofs.Undamaged.{UndamagedWindow}
@@ -22,8 +22,9 @@ pub before-start : (w : View) (n : ℕ) → n < w .frame .start → verdictOf w 
 before-start w n h = sym (says-below w n (omega (arith, floor-start (w .frame) (w .highest))))
 
 module _ (f : Frame) (n : ℕ) where
-  pub from-start : 1 ≤ f .size → f .start ≤ n → verdictOf (freshOf f) n ≡ Admissible
-  from-start s h = sym (says-admissible (freshOf f) n (floor-le f 0 n h (omega arith)) (no-mark (freshOf f) n refl))
+  pub from-start : f .start ≤ n → verdictOf (freshOf f) n ≡ Admissible
+  unfolding floorAt
+  from-start h = sym (says-admissible (freshOf f) n (omega arith) (no-mark (freshOf f) n refl))
 
   pub first-accepted : acceptOf (freshOf f) n ≡ record { frame = f; highest = n; marks = 1 }
   unfolding moved
@@ -33,9 +34,9 @@ module _ (f : Frame) (n : ℕ) where
       rw (top, none, sub-self)
 
 -- v starts no earlier than w, and above the highest number of w
-pub starts-behind : (w v : View) (n : ℕ) → 1 ≤ w .frame .size → w .frame .start ≤ v .frame .start → w .highest < v .frame .start
+pub starts-behind : (w v : View) (n : ℕ) → w .frame .start ≤ v .frame .start → w .highest < v .frame .start
     → (verdictOf w n ≡ Admissible → ⊥) → verdictOf v n ≡ Below
-starts-behind w v n sized later above refused = by (decLt n (v .frame .start))
+starts-behind w v n later above refused = by (decLt n (v .frame .start))
   where
     by : Dec (n < v .frame .start) → verdictOf v n ≡ Below
     by (yes h) = before-start v n h

@@ -155,11 +155,12 @@ pub fn undamaged_entry(window: Window, accepted: u64, bytes: u64) -> bool
     if !window.undamaged() {
         return false;
     }
+    let start = window.frame.start;
     let count = window.count();
     if accepted < count {
         return false;
     }
-    if count + window.floor() - window.frame.start < accepted {
+    if count + window.floor() - start < accepted {
         return false;
     }
     if LONGEST_PAYLOAD * accepted < bytes {

@@ -15,13 +15,13 @@ undamaged : (c : tie.Else1) → undamagedWindow (viewOf (c .before .before .args
 undamaged c = sym (c .before .undamaged .ensures) ∙ not-false _ (c .if1 .left)
 
 sub-if3 : tie.Need-sub-if3
-sub-if3 c = omega (arith, floor-start (c .before .before .before .before .before .before .args .window .frame) (c .before .before .before .before .before .before .args .window .highest))
+sub-if3 c = let w = c .before .before .before .before .before .args .window in omega (arith, floor-start (w .frame) (w .highest))
 
 returns-5 : tie.Need-returns-5
 returns-5 c =
     sym
     (entry-test _
-    (record { window = undamaged (c .before .before .before .before .before .before); enough = omega arith; few = omega arith; light = omega arith }))
+    (record { window = undamaged (c .before .before .before .before .before); enough = omega arith; few = omega arith; light = omega arith }))
 
 pub undamaged-entry-spec : {M : Type 1} → statement M
 undamaged-entry-spec =
@@ -35,6 +35,6 @@ undamaged-entry-spec =
     (λ c. let f = floor-small _ (undamaged (c .before .before .before)) in omega arith)
     sub-if3
     (λ c. entry-damaged _ (λ w. omega (arith, w .few)))
-    (λ c. let f = floor-small _ (undamaged (c .before .before .before .before .before)) in omega arith)
+    (λ c. let f = floor-small _ (undamaged (c .before .before .before .before)) in omega arith)
     (λ c. entry-damaged _ (λ w. omega (arith, w .light)))
     returns-5)

@@ -1,4 +1,4 @@
--- `Window::reach` meets its contract: a floor above the highest leaves nothing, and else as many numbers as Size at most, which a word holds.
+-- `Window::reach` meets its contract: a floor above the highest leaves nothing, and else a word holds how many numbers are left.
 use borrow.Author.Needs.{needs}
 use Rattle.window.specs.Window.{floorAt}
 use Rattle.window.proofs.Window.reach.Statement.{statement}
