@@ -177,12 +177,13 @@ module _ (t : List ℕ) (long : length t ≡ tableLength) (k : KeyData) (f : Fra
       → Accounts (fresh k f) i (run t (install k f ∷ cs)) (toldBy (fresh k f) cs)
   history-installed done cs goes = history (install-begins t long k f bytes i done) cs goes
 
-  -- and of calls that were made, the first of them such an install
+  -- an install that was made, and was answered 0, begins a history
   pub installed-begins : (r : Received) → Allowed t (install k f) r → r .answer ≡ doneAt i → Begins (fresh k f) i (r .table)
   installed-begins r allowed done =
       let is = allowed-called t (install k f) r allowed in
       subst (λ (x : Received). Begins (fresh k f) i (x .table)) (sym is) (install-begins t long k f bytes i (sym (ap (λ (x : Received). x .answer) is) ∙ done))
 
+  -- and of calls that were made, the first of them such an install
   pub installed-traced : (r : Received) (cs : List Call) (rs : List Received) → Trace t (install k f ∷ cs) (r ∷ rs) → r .answer ≡ doneAt i → Unended i cs rs
       → Accounts (fresh k f) i (lastOf t (r ∷ rs)) (toldBy (fresh k f) cs) × (handedBy i [] cs rs ≡ counted (fresh k f) cs)
   installed-traced r cs rs trace done unended = history-traced (installed-begins r (trace .0) done) cs rs (trace .1) unended
