@@ -1,9 +1,10 @@
 // A whole message written, and one checked and taken apart.
+ghost use mathlib.Core.List.{List};
 ghost use mathlib.Core.Path.{_≡_};
-ghost use Prim.Native.Nat.{_+_, _^_, _<_, _≤_};
+ghost use Prim.Native.Nat.{ℕ, _+_, _^_, _<_, _≤_};
 ghost use lib.ListN.{length};
 ghost use Rattle.octets.specs.Octets.{put};
-ghost use Rattle.magma.specs.Magma.{encrypted};
+ghost use Rattle.magma.specs.Magma.{encrypted, keyWords};
 ghost use Rattle.modes.specs.Modes.{firstSubkey, secondSubkey};
 ghost use Rattle.format.specs.Header.{readOf, fixedBytes};
 ghost use Rattle.format.specs.KeyData.{keyed};
@@ -38,12 +39,30 @@ pub fn seal(
     ensures { λ r. ⌜ now (out .exit) ≡ put (now (out .entry)) 0 (sealed suite (keyed terms (now (keyid .entry)) (now (source .entry)) (now (key .entry))) seqnum (now (payload .entry))) ⌝ }
 {
     let base = modes::key_words(key);
-    let subkeys = modes::subkeys_of(&base);
+    seal_under(suite, terms, keyid, source, &base, seqnum, payload, out)
+}
+
+// The same, with the words of the base key at hand.
+pub fn seal_under(
+    suite: Suite,
+    terms: Terms,
+    keyid: &[u8],
+    source: &[u8],
+    base: &[u32; 8],
+    seqnum: u64,
+    payload: &[u8],
+    out: &mut [u8],
+) -> usize
+    requires { ⌜ (terms .flag < 2) × (length (now source) ≤ 32) × (seqnum < 2 ^ 48) × (fixedBytes + length (now keyid) + length (now payload) + icvLengthOf suite ≤ length (now out)) × (length (now payload) ≤ 2 ^ 35) ⌝ }
+    ensures { λ r. ⌜ ((key : List ℕ) → keyWords key ≡ now (base .entry) → r ≡ length (sealed suite (keyed terms (now (keyid .entry)) (now (source .entry)) key) seqnum (now (payload .entry)))) ⌝ }
+    ensures { λ r. ⌜ ((key : List ℕ) → keyWords key ≡ now (base .entry) → now (out .exit) ≡ put (now (out .entry)) 0 (sealed suite (keyed terms (now (keyid .entry)) (now (source .entry)) key) seqnum (now (payload .entry)))) ⌝ }
+{
+    let subkeys = modes::subkeys_of(base);
     header::write_header(terms.flag, suite, keyid, seqnum, out);
     let start = header::FIXED + keyid.len();
     let end = start + payload.len();
-    encipher(&base, subkeys, suite, source, seqnum, payload, out, start);
-    let icv = icv(&base, subkeys, suite, source, seqnum, &out[..end]);
+    encipher(base, subkeys, suite, source, seqnum, payload, out, start);
+    let icv = icv(base, subkeys, suite, source, seqnum, &out[..end]);
     octets::write(out, end, suite.icv_length(), icv);
     end + suite.icv_length()
 }

@@ -13,19 +13,18 @@ pub fn counter(key: &[u32; 8], iv: u32, bytes: &[u8], out: &mut [u8], at: usize)
     let first = (iv as u64) * 4294967296;
     let mut done: usize = 0;
     while done < bytes.len() {
-        let end = block_end(done, bytes.len());
+        let end = done + block_length(bytes.len() - done);
         let gamma = magma::encrypt(key, first + (done / 8) as u64);
         mask(gamma, &bytes[done..end], out, at + done);
         done = end;
     }
 }
 
-// Where the block that starts at `at` ends.
-fn block_end(at: usize, n: usize) -> usize
-    requires { ⌜ at < n ⌝ }
-    ensures { λ r. ⌜ r ≡ min (at + 8) n ⌝ }
+// Of `rest` bytes, how many are in the first block.
+fn block_length(rest: usize) -> usize
+    ensures { λ r. ⌜ r ≡ min 8 rest ⌝ }
 {
-    if n - at < 8 { n } else { at + 8 }
+    if rest < 8 { rest } else { 8 }
 }
 
 // At most a block of bytes, each exclusive or its byte of the gamma, is written at `at`.

@@ -1,10 +1,11 @@
 -- What protect leaves, case by case: each refusal by its own test, and the message where none fits.
 -- Assumes nothing.
 use mathlib.Core.Path.{_≡_, _∙_}
-use mathlib.Core.Bool.{true, false, and-false}
+use mathlib.Core.Bool.{true, false, _&&_}
 use mathlib.Core.List.{List}
 use Prim.Native.Nat.{ℕ, _+_, _-_, _^_, _≤_, _<_}
 use borrow.Author.Tests.{lt-ltb, le-ltb, eq-eqb, ne-eqb}
+use lib.Dec.{ltb}
 use lib.ListN.{length}
 use Rattle.answers.specs.Answers.{outputRoom, outputSmall, badLength, damaged, noNumber}
 use Rattle.octets.specs.Octets.{put}
@@ -32,13 +33,9 @@ module _ (s : Sender) (payload out : List ℕ) where
   no-room h = rw (lt-ltb (length out) outputRoom h)
 
   module _ (room : outputRoom ≤ length out) where
-    pub unsound-record : soundRecord (s .keys) ≡ false → outcomeOf s payload out ≡ refusal damaged s out
+    pub damaged-record : (soundRecord (s .keys) && ltb (s .current) (2 ^ 48)) ≡ false → outcomeOf s payload out ≡ refusal damaged s out
     unfolding outcomeOf
-    unsound-record h = rw (le-ltb (length out) outputRoom room, h)
-
-    pub over : 2 ^ 48 ≤ s .current → outcomeOf s payload out ≡ refusal damaged s out
-    unfolding outcomeOf
-    over h = rw (le-ltb (length out) outputRoom room, le-ltb (s .current) (2 ^ 48) h, and-false)
+    damaged-record h = rw (le-ltb (length out) outputRoom room, h)
 
     module _ (sound : soundRecord (s .keys) ≡ true) (small : s .current < 2 ^ 48) where
       within : outcomeOf s payload out ≡ numbered (suiteOf (s .keys .suite)) s payload out

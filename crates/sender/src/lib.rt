@@ -1,12 +1,14 @@
 // The sender's record, and protect: the next message for a payload. Everything is by value: whoever keeps the record stores the number that
 // comes back.
 ghost use mathlib.Core.Path.{_≡_};
-ghost use mathlib.Core.Bool.{true};
+ghost use mathlib.Core.Bool.{true, _&&_};
 ghost use Prim.Native.Nat.{_+_, _^_, _<_, _≤_};
+ghost use lib.Dec.{ltb};
 ghost use lib.ListN.{length};
 ghost use Rattle.format.specs.Header.{greatestMessage, fixedBytes};
 ghost use Rattle.answers.specs.Answers.{outputRoom};
 ghost use Rattle.octets.specs.Octets.{put};
+ghost use Rattle.magma.specs.Magma.{keyWords};
 ghost use Rattle.format.specs.Suite.{icvLengthOf};
 ghost use Rattle.sender.specs.Protect.{keyDataIn, soundRecord, withNumber, messageOf, refusedAt, Protects};
 use answers::Answer;
@@ -50,13 +52,11 @@ pub fn protect_by_value(sender: Sender, payload: &[u8], out: &mut [u8]) -> Prote
     let keys = sender.keys;
     let current = sender.current;
     let keyid_len = keys.keyid_len;
+    let base = base_of(keys);
     if out.len() < answers::OUTPUT {
         return refuse(answers::OUTPUT_SMALL, current);
     }
-    if !is_sound(keys) {
-        return refuse(answers::DAMAGED, current);
-    }
-    if window::LAST < current {
+    if !is_undamaged(sender) {
         return refuse(answers::DAMAGED, current);
     }
     let numbered = Suite::numbered(keys.suite);
@@ -71,7 +71,7 @@ pub fn protect_by_value(sender: Sender, payload: &[u8], out: &mut [u8]) -> Prote
         return refuse(answers::NO_NUMBER, current);
     }
     let next = current + 1;
-    let length = write_message(keys, suite, next, payload, out);
+    let length = write_message(keys, &base, suite, next, payload, out);
     Protected {
         answer: Answer {
             reply: answers::DONE,
@@ -91,6 +91,26 @@ fn refuse(reply: u64, current: u64) -> Protected
         answer: answers::refuse(reply),
         current: current,
     }
+}
+
+// The words of a record's key. They are made before the tests: the key's bytes, held until after them, would take stack of their own.
+fn base_of(keys: Keys) -> [u32; 8]
+    ensures { λ r. ⌜ r ≡ keyWords (keys .key) ⌝ }
+{
+    let key = keys.key;
+    modes::key_words(&key)
+}
+
+// Whether a record can send: its key data is sound, and its number one that a message can have.
+fn is_undamaged(sender: Sender) -> bool
+    ensures { λ r. ⌜ r ≡ (soundRecord (sender .keys) && ltb (sender .current) (2 ^ 48)) ⌝ }
+{
+    let keys = sender.keys;
+    let current = sender.current;
+    if window::LAST < current {
+        return false;
+    }
+    is_sound(keys)
 }
 
 // Whether a record's key data is sound.
@@ -116,26 +136,32 @@ fn is_sound(keys: Keys) -> bool
 }
 
 // The message with that number is written at the start of the output. Answers its length.
-fn write_message(keys: Keys, suite: Suite, number: u64, payload: &[u8], out: &mut [u8]) -> usize
-    requires { ⌜ (soundRecord keys ≡ true) × (number < 2 ^ 48) × (fixedBytes + length (keyDataIn keys .keyId) + length (now payload) + icvLengthOf suite ≤ greatestMessage) × (outputRoom ≤ length (now out)) ⌝ }
+fn write_message(
+    keys: Keys,
+    base: &[u32; 8],
+    suite: Suite,
+    number: u64,
+    payload: &[u8],
+    out: &mut [u8],
+) -> usize
+    requires { ⌜ (keyWords (keys .key) ≡ now base) × (soundRecord keys ≡ true) × (number < 2 ^ 48) × (fixedBytes + length (keyDataIn keys .keyId) + length (now payload) + icvLengthOf suite ≤ greatestMessage) × (outputRoom ≤ length (now out)) ⌝ }
     ensures { λ r. ⌜ r ≡ length (messageOf suite keys number (now (payload .entry))) ⌝ }
     ensures { λ r. ⌜ now (out .exit) ≡ put (now (out .entry)) 0 (messageOf suite keys number (now (payload .entry))) ⌝ }
 {
     let keyid = keys.keyid;
     let source = keys.source;
-    let key = keys.key;
     let keyid_len = keys.keyid_len;
     let source_len = keys.source_len;
     let terms = Terms {
         flag: keys.flag,
         suite: keys.suite,
     };
-    sealing::seal(
+    sealing::seal_under(
         suite,
         terms,
         &keyid[..keyid_len],
         &source[..source_len],
-        &key,
+        base,
         number,
         payload,
         out,

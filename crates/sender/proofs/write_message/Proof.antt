@@ -10,26 +10,32 @@ use Rattle.sender.proofs.Records.{SoundKeys, record-facts}
 use Rattle.sender.proofs.write_message.Statement.{statement}
 use Rattle.sender.proofs.write_message.Tie as tie
 
-abbrev start : tie.After-key → tie.Start
-start c = c .before .before .before .before .before
+abbrev start : tie.After-source → tie.Start
+start c = c .before .before .before .before
 
-sound : (c : tie.After-key) → SoundKeys (start c .args .keys)
-sound c = record-facts (start c .args .keys) (start c .pre .0)
+sound : (c : tie.After-source) → SoundKeys (start c .args .keys)
+sound c = record-facts (start c .args .keys) (start c .pre .1)
 
 -- the prefixes that are lent lie within their arrays
-keyid-fits : (c : tie.After-key) → start c .args .keys .«keyid_len» ≤ length (start c .args .keys .keyid)
+keyid-fits : (c : tie.After-source) → start c .args .keys .«keyid_len» ≤ length (start c .args .keys .keyid)
 keyid-fits c = let l : length (start c .args .keys .keyid) ≡ 128 = search needs in omega (arith, sound c .keyid-room)
 
-source-fits : (c : tie.After-key) → start c .args .keys .«source_len» ≤ length (start c .args .keys .source)
+source-fits : (c : tie.After-source) → start c .args .keys .«source_len» ≤ length (start c .args .keys .source)
 source-fits c = let l : length (start c .args .keys .source) ≡ 32 = search needs in omega (arith, sound c .source-room)
 
-seal-requires : tie.Need-seal-requires
-seal-requires c κs =
-    let place = c .before .before .before .before in
+seal-under-requires : tie.Need-seal-under-requires
+seal-under-requires c κs =
+    let place = c .before .before .before in
     let a = start place .args in
     let k = sound-facts (keyDataIn (a .keys)) (sound place .keys) in
     let p = start place .pre in
-    (k .key-length, omega (arith, k .flag-small), k .source-most, p .1, omega arith, omega arith)
+    (omega (arith, k .flag-small), k .source-most, p .2, omega arith, omega arith)
+
+returns : tie.Need-returns
+returns c =
+    let sealed = c .before .before in
+    let words = start (sealed .before .before .before .before) .pre .0 in
+    (sealed .seal-under .ensures .0 _ words, sealed .seal-under .ensures .1 _ words)
 
 pub write-message-spec : {M : Type 1} → statement M
 write-message-spec =
@@ -39,7 +45,6 @@ write-message-spec =
     (λ c. simp length-take (omega (arith, keyid-fits (c .before))))
     (λ c. source-fits (c .before))
     (λ c. simp length-take (omega (arith, source-fits (c .before .before))))
+    seal-under-requires
     (λ c. search needs)
-    seal-requires
-    (λ c. search needs)
-    (λ c. search needs))
+    returns)

@@ -1,67 +1,15 @@
--- `message::sealing::seal` meets its contract: header, payload and ICV are written side by side, and the ICV is that of what stands before it.
--- Assumes nothing.
-use mathlib.Core.Path.{_≡_, sym}
-use native.Mathlib.Omega.{arith}
+-- `message::sealing::seal` meets its contract: the words are those of the key. Assumes nothing.
+use mathlib.Core.Path.{sym}
 use borrow.Author.Needs.{needs}
-use lib.ListN.{length-take}
-use Rattle.octets.specs.Octets.{put}
-use Rattle.format.specs.KeyData.{KeyData, keyed}
-use Rattle.message.specs.Sealing.{frontOf}
-use Rattle.message.proofs.Fronts.{front-written, sealed-written}
-use Rattle.message.proofs.RoundTrip.{sealed-length}
 use Rattle.message.proofs.sealing.seal.Statement.{statement}
 use Rattle.message.proofs.sealing.seal.Tie as tie
 
--- where the ICV is asked for: the header was written, and before it the key's words were made
-abbrev headed : tie.After-icv-arg → tie.After-write-header
-headed c = c .before .before .before .before .before .before .before .before .before
-
-abbrev worded : tie.After-icv-arg → tie.After-key-words
-worded c = headed c .before .before .before .before
-
-abbrev start : tie.After-icv-arg → tie.Start
-start c = headed c .before .before .before .before .before .before .before .before .before .before
-
-abbrev keys : tie.Start → KeyData
-keys s = let a = s .args in keyed (a .terms) (a .keyid .now) (a .source .now) (a .key .now)
-
--- the output as the ICV finds it
-written : (c : tie.After-icv-arg)
-    → let a = start c .args in
-    c .before .before .before .before .encipher .last .1 .1 .1 .1 .1 .1 .0
-    ≡ put (a .out .now) 0 (frontOf (a .suite) (keys (start c)) (a .seqnum) (a .payload .now))
-written c =
-    let a = start c .args in
-    let loan = c .before .before .before .before in
-    front-written (a .suite) (keys (start c)) (a .seqnum) (a .payload .now) (a .out .now)
-    (headed c .write-header .ensures)
-    (rw (worded c .key-words .ensures) at (loan .encipher .ensures))
-
 returns : tie.Need-returns
 returns c =
-    let icv = c .before .before .before .before .before .before in
-    let a = start (icv .before) .args in (
-      rw (c .icv-length2 .ensures)
-          (sym (sealed-length (a .suite) (keys (start (icv .before))) (a .seqnum) (a .payload .now))),
-      sealed-written (a .suite) (keys (start (icv .before))) (a .seqnum) (a .payload .now) (a .out .now)
-          (written (icv .before)) (icv .icv .result) _
-          (rw (worded (icv .before) .key-words .ensures) at (icv .icv .ensures))
-          (c .before .before .before .before .icv-length .ensures)
-          (c .before .before .before .write .ensures),
-    )
+    let key = c .before .before .before .before .before in
+    let words = sym (key .key-words .ensures) in
+    let said = c .before .before .seal-under .ensures in
+    (said .0 _ words, said .1 _ words)
 
 pub seal-spec : {M : Type 1} → statement M
-seal-spec =
-    tie.close
-    (tie.spec
-    (λ c κs. search needs) (λ c κs. search needs) (λ c κs. search needs) (λ c. search needs) (λ c. search needs) (λ c κs. search needs)
-    (λ c. search needs)
-    (λ c. simp length-take (omega arith))
-    (λ c κs. search needs) (λ c κs. search needs) (λ c κs. search needs) (λ c κs. search needs)
-    (λ c.
-    let begin = start (c .before .before .before .before .before .before .before) in
-    let p = begin .pre in
-    let g = begin .good in
-    omega arith)
-    (λ c. search needs)
-    returns)
+seal-spec = tie.close (tie.spec (λ c κs. search needs) (λ c κs. search needs) (λ c. search needs) returns)

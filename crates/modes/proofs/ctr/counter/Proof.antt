@@ -1,7 +1,7 @@
 -- `modes::ctr::counter` meets its contract. The loop's invariant: the bytes before `done`, where a block begins, are written, and the others stay.
 -- Assumes nothing.
 use mathlib.Core.Path.{_≡_, _∙_}
-use Prim.Native.Nat.{_-_, _*_, _/_, _%_, _^_, _≤_, _<_}
+use Prim.Native.Nat.{_+_, _-_, _*_, _/_, _%_, _^_, _≤_, _<_}
 use native.Mathlib.Omega.{arith}
 use borrow.Author.Needs.{needs}
 use lib.ListN.{length}
@@ -32,7 +32,7 @@ loop-again : tie.Need-loop-again Inv-loop μ-loop
 loop-again c =
     let l = c .before .before .before .before .before .before .before .before .loop in
     let a = c .before .before .before .before .before .before .before .before .before .before .before .args in
-    let end = c .before .before .before .before .before .before .block-end .result in
+    let end = l .done + c .before .before .before .before .before .before .block-length .result in
     let block : l .done % 8 ≡ 0 = l .inv .2 (search needs) in (
       search needs,
       search needs,
@@ -59,8 +59,8 @@ counter-spec =
     μ-loop
     (λ c. search needs)
     loop-holds
-    (λ c κs. search needs) (λ c. search needs) (λ c κs. search needs) (λ c. search needs) (λ c. search needs) (λ c. search needs)
-    (λ c. search needs) (λ c κs. search needs) (λ c. search needs)
+    (λ c. search needs) (λ c κs. search needs) (λ c. search needs) (λ c. search needs) (λ c κs. search needs) (λ c. search needs)
+    (λ c. search needs) (λ c. search needs) (λ c. search needs) (λ c κs. search needs) (λ c. search needs)
     loop-again
     (λ c. search needs)
     returns)
