@@ -97,8 +97,8 @@ fn refuse(reply: u64, current: u64) -> Protected
 fn base_of(keys: Keys) -> [u32; 8]
     ensures { λ r. ⌜ r ≡ keyWords (keys .key) ⌝ }
 {
-    let key = keys.key;
-    modes::key_words(&key)
+    let bytes = keys.key;
+    modes::key_words(&bytes)
 }
 
 // Whether a record can send: its key data is sound, and its number one that a message can have.
