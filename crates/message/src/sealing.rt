@@ -42,7 +42,7 @@ pub fn seal(
     seal_under(suite, terms, keyid, source, &base, seqnum, payload, out)
 }
 
-// The same, with the words of the base key at hand.
+// The same with the words of the base key at hand, whatever key has these words.
 pub fn seal_under(
     suite: Suite,
     terms: Terms,
