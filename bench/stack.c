@@ -1,9 +1,9 @@
 /* stack.c: the deepest stack of each function of the library, in bytes. Receive and protect must be within 1,024, all others within CRISP_STACK, a report
  * of a capture, which has a payload's buffer in it, within 4,096. Then counter mode by itself, and the cipher's own told apart from it.
  *
- * A call runs on a stack of its own. Two depths are taken and the larger is printed: down to the lowest byte written (the stack is filled with a value
- * before, and with another value in a second run), and down to the lowest stack pointer (the call is single-stepped). The lines here that make the call
- * are counted with it, some 30 to 50 bytes. x86-64, Linux. */
+ * A call runs on a stack of its own. Of the functions two depths are taken and the larger is printed: down to the lowest byte written (the stack is filled
+ * with a value before, and with another value in a second run), and down to the lowest stack pointer (the call is single-stepped). The lines here that
+ * make the call are counted with it, 16 to 96 bytes. x86-64, Linux. */
 #define _GNU_SOURCE
 #include "cipher.h"
 #include "crisp.h"
@@ -102,7 +102,7 @@ static void gauge_within(size_t limit, const char *name, void (*f)(void))
     size_t depth = written(f, 0x5a), second = written(f, 0xa5), pointer = reserved(f);
     if (second > depth) depth = second;
     if (pointer > depth) depth = pointer;
-    line(name, depth, answer.reply != 0 || depth > limit);
+    line(name, depth, answer.reply != 0 || pointer == 0 || depth > limit);
 }
 
 static void gauge(const char *name, void (*f)(void)) { gauge_within(CRISP_STACK - PUSHED, name, f); }
@@ -110,9 +110,11 @@ static void gauge(const char *name, void (*f)(void)) { gauge_within(CRISP_STACK 
 /* ---- counter mode by itself
  *
  * Its frame is what lies between its return address and the cipher's, at any step outside the cipher. Scratch is what of the frame, or of the red zone
- * below it, ever depends on key, IV or data: each place has a sum of what stood there at each step, and the sums of two runs on other data are compared. */
+ * below it, ever depends on key, IV or data: each place has a sum of what stood there at each step, and the sums of two runs on other data are compared.
+ * What depends on none of them (the low half of a counter) is not seen so; the frame has a limit too, which leaves two blocks beside what is kept:
+ * return address, six registers, and five words that the loop walks by. */
 
-enum { BLOCK = 8, SCRATCH = 2 * BLOCK, KEPT = 14 * 8, RED_ZONE = 128, LONGEST = 2048 };
+enum { BLOCK = 8, SCRATCH = 2 * BLOCK, KEPT = 12 * 8, RED_ZONE = 128, LONGEST = 2048 };
 
 static uint32_t words[8], iv;
 static uint64_t image;
@@ -174,6 +176,10 @@ static void gauge_counter(void)
 {
     watched = (uintptr_t)cipher_block, top = 0, also = find_cipher;
     reserved(block);
+    if (!top || !cipher) {
+        line("counter mode, not seen", 0, 1);
+        return;
+    }
     size_t own = taken(block), deepest = 0;
 
     watched = (uintptr_t)cipher_counter, also = look_at_frame;
@@ -184,9 +190,9 @@ static void gauge_counter(void)
         size_t depth = taken(counter);
         if (depth > deepest) deepest = depth;
     }
-    line("counter mode, frame", frame, answer.reply != 0 || frame > SCRATCH + KEPT);
+    line("counter mode, frame", frame, answer.reply != 0 || frame == 0 || frame > SCRATCH + KEPT);
     line("  scratch in it", scratch, scratch > SCRATCH);
-    line("  the cipher's own", own, own < BLOCK);
+    line("  the cipher's own", own, 0);
     line("  all, of any length", deepest, deepest > frame + own);
 }
 

@@ -93,7 +93,7 @@ fn refuse(reply: u64, current: u64) -> Protected
     }
 }
 
-// The words of a record's key. They are made before the tests: the key's bytes, held until after them, would take stack of their own.
+// The words of a record's key. They are made before the tests, as its bytes would take more stack until after them.
 fn base_of(keys: Keys) -> [u32; 8]
     ensures { λ r. ⌜ r ≡ keyWords (keys .key) ⌝ }
 {
@@ -101,7 +101,7 @@ fn base_of(keys: Keys) -> [u32; 8]
     modes::key_words(&bytes)
 }
 
-// Whether a record can send: its key data is sound, and its number one that a message can have.
+// Whether a record is undamaged: its key data is sound, and its number at most 2^48 - 1.
 fn is_undamaged(sender: Sender) -> bool
     ensures { λ r. ⌜ r ≡ (soundRecord (sender .keys) && ltb (sender .current) (2 ^ 48)) ⌝ }
 {
