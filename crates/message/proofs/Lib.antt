@@ -1,3 +1,4 @@
+pub mod Determined
 pub mod Fronts
 pub mod Opening
 pub mod Payloads
