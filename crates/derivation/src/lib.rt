@@ -1,4 +1,4 @@
-// Derived keys: what a base key, the source, the suite and SeqNum make.
+// Derived keys: what a base key, the source, the suite, the edition and SeqNum make.
 ghost use mathlib.Core.List.{_∷_};
 ghost use mathlib.Core.Path.{_≡_};
 ghost use Prim.Native.Nat.{_+_, _<_, _≤_};
@@ -6,7 +6,8 @@ ghost use lib.ListN.{length, drop};
 ghost use Rattle.octets.specs.Octets.{put};
 ghost use Rattle.magma.specs.Magma.{encrypted};
 ghost use Rattle.modes.specs.Modes.{firstSubkey, secondSubkey, checkWith};
-ghost use Rattle.derivation.specs.Derivation.{dataAfter, blockWords, keyFrom};
+ghost use Rattle.derivation.specs.Derivation.{serialOf, dataAfter, blockWords, keyFrom};
+use format::key_data;
 use format::suite::Suite;
 use modes::Subkeys;
 
@@ -23,32 +24,43 @@ pub fn derived_key(
     base: &[u32; 8],
     subkeys: Subkeys,
     suite: Suite,
+    edition: u8,
     source: &[u8],
     seqnum: u64,
     first: u8,
 ) -> [u32; 8]
     requires { ⌜ (subkeys .first ≡ firstSubkey 8 0x1b (encrypted (now base))) × (subkeys .second ≡ secondSubkey 8 0x1b (encrypted (now base))) × (length (now source) ≤ 32) × (first < 6) ⌝ }
-    ensures { λ r. ⌜ r ≡ keyFrom (now (base .entry)) suite (now (source .entry)) seqnum first ⌝ }
+    ensures { λ r. ⌜ r ≡ keyFrom (now (base .entry)) suite edition (now (source .entry)) seqnum first ⌝ }
 {
     let mut data = [0u8; LONGEST];
-    write_data(suite, source, seqnum, &mut data);
+    write_data(suite, edition, source, seqnum, &mut data);
     key_of_blocks(base, subkeys, &mut data[..18 + source.len()], first)
 }
 
 // The data of a block, but for its number in the first byte.
-fn write_data(suite: Suite, source: &[u8], seqnum: u64, out: &mut [u8])
+fn write_data(suite: Suite, edition: u8, source: &[u8], seqnum: u64, out: &mut [u8])
     requires { ⌜ (length (now source) ≤ 32) × (18 + length (now source) ≤ length (now out)) ⌝ }
-    ensures { λ _. ⌜ now (out .exit) ≡ put (now (out .entry)) 1 (dataAfter suite (now (source .entry)) seqnum) ⌝ }
+    ensures { λ _. ⌜ now (out .exit) ≡ put (now (out .entry)) 1 (dataAfter suite edition (now (source .entry)) seqnum) ⌝ }
 {
     let label = suite.label();
     octets::copy(&label, out, 1);
     octets::write(out, 7, 1, 6);
-    octets::write(out, 8, 5, seqnum / 8192);
+    octets::write(out, 8, 5, serial(edition, seqnum));
     octets::copy(source, out, 13);
     let at = 13 + source.len();
     octets::write(out, at, 1, suite.number() as u64);
     octets::write(out, at + 1, 2, (6 + source.len()) as u64);
     octets::write(out, at + 3, 2, suite.output_bits());
+}
+
+// The bits of SeqNum that SN has: the low 35 of 48, or the top 35.
+fn serial(edition: u8, seqnum: u64) -> u64
+    ensures { λ r. ⌜ r ≡ serialOf edition seqnum ⌝ }
+{
+    match edition {
+        key_data::LSB => seqnum % 34359738368,
+        _ => seqnum / 8192,
+    }
 }
 
 // The eight words of four blocks, each the check value of the data with the block's number in its first byte, where the last one stays.

@@ -10,7 +10,7 @@ use lib.Dec.{eqb}
 use lib.ListN.{length, getD}
 use Rattle.numbers.proofs.Tests.{and-left, and-right, and-both, refuted}
 use Rattle.format.specs.KeyId.{lengthAsked}
-use Rattle.format.specs.KeyData.{KeyData, known, soundOf}
+use Rattle.format.specs.KeyData.{KeyData, known, goesWith, soundOf}
 use Rattle.format.specs.Suite.{suiteOf}
 
 pub record Sound (k : KeyData) : Type 0 where
@@ -20,14 +20,15 @@ pub record Sound (k : KeyData) : Type 0 where
   pub source-most : length (k .source) ≤ 32
   pub key-length : length (k .key) ≡ 32
   pub suite-known : known (suiteOf (k .suite)) ≡ true
+  pub edition-goes : goesWith (k .edition) (k .suite) ≡ true
   pub named : not (eqb (k .flag) 0 && eqb (getD (k .keyId) 0 0) 0x80) ≡ true
 
 -- key data is told by its parts
-pub key-data-is : {flag flag′ : ℕ} {keyId keyId′ source source′ : List ℕ} {suite suite′ : ℕ} {key key′ : List ℕ}
-    → flag ≡ flag′ → keyId ≡ keyId′ → source ≡ source′ → suite ≡ suite′ → key ≡ key′
-    → _≡_ {A = KeyData} (record { flag = flag; keyId = keyId; source = source; suite = suite; key = key })
-    (record { flag = flag′; keyId = keyId′; source = source′; suite = suite′; key = key′ })
-key-data-is a b c d e = rw (a, b, c, d, e)
+pub key-data-is : {flag flag′ : ℕ} {keyId keyId′ source source′ : List ℕ} {suite suite′ edition edition′ : ℕ} {key key′ : List ℕ}
+    → flag ≡ flag′ → keyId ≡ keyId′ → source ≡ source′ → suite ≡ suite′ → edition ≡ edition′ → key ≡ key′
+    → _≡_ {A = KeyData} (record { flag = flag; keyId = keyId; source = source; suite = suite; edition = edition; key = key })
+    (record { flag = flag′; keyId = keyId′; source = source′; suite = suite′; edition = edition′; key = key′ })
+key-data-is a b c d e f = rw (a, b, c, d, e, f)
 
 -- flag 0 does not go with the first byte 80: by another flag, by another byte, or not at all
 pub by-flag : (flag first : ℕ) → (flag ≡ 0 → ⊥) → not (eqb flag 0 && eqb first 0x80) ≡ true

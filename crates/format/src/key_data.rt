@@ -1,6 +1,6 @@
 // Whether key data is sound.
 ghost use mathlib.Core.Path.{_≡_};
-ghost use Rattle.format.specs.KeyData.{keyed, soundOf};
+ghost use Rattle.format.specs.KeyData.{keyed, goesWith, soundOf};
 use crate::key_id::KeyId;
 use crate::suite::Numbered;
 use crate::suite::Suite;
@@ -17,14 +17,20 @@ pub const KEY: usize = 32;
 // The KeyId that says that there is none.
 const ABSENT: u8 = 128;
 
-// The numbers of key data: ExternalKeyIdFlag and the suite's number. Its bytes are lent beside them.
+// Editions, by the bits of SeqNum that SN has: its low ones, as old controllers of suite 1 read a copy that prints LSB, or its top ones.
+pub const LSB: u8 = 1;
+
+pub const MSB: u8 = 2;
+
+// The numbers of key data: ExternalKeyIdFlag, the suite's number and the edition. Its bytes are lent beside them.
 #[repr(C)]
 pub struct Terms {
     pub flag: u8,
     pub suite: u8,
+    pub edition: u8,
 }
 
-// Flag, KeyId, SourceIdentifier, suite number and base key together.
+// Flag, KeyId, SourceIdentifier, suite number, edition and base key together.
 pub fn sound(terms: Terms, keyid: &[u8], source: &[u8], key: &[u8]) -> bool
     ensures { λ r. ⌜ r ≡ soundOf (keyed terms (now (keyid .entry)) (now (source .entry)) (now (key .entry))) ⌝ }
 {
@@ -52,6 +58,9 @@ pub fn sound(terms: Terms, keyid: &[u8], source: &[u8], key: &[u8]) -> bool
     let Numbered::Known(_) = numbered else {
         return false;
     };
+    if !goes_with(terms.edition, terms.suite) {
+        return false;
+    }
     if terms.flag != 0 {
         return true;
     }
@@ -59,4 +68,15 @@ pub fn sound(terms: Terms, keyid: &[u8], source: &[u8], key: &[u8]) -> bool
         return false;
     }
     true
+}
+
+// Whether there is that edition, and it goes with the suite of that number.
+fn goes_with(edition: u8, suite: u8) -> bool
+    ensures { λ r. ⌜ r ≡ goesWith edition suite ⌝ }
+{
+    match edition {
+        LSB => suite == Suite::MAGMA_CTR,
+        MSB => true,
+        _ => false,
+    }
 }

@@ -24,9 +24,9 @@ module _ (s : Suite) (k : KeyData) (seqNum : ℕ) (payload : List ℕ) where
   unfolding frontOf
   front-length =
       rw (
-        length-append (headerBytes (k .flag) s (k .keyId) seqNum) (enciphered s (keyWords (k .key)) (k .source) seqNum payload),
+        length-append (headerBytes (k .flag) s (k .keyId) seqNum) (enciphered s (k .edition) (keyWords (k .key)) (k .source) seqNum payload),
         header-length (k .flag) s (k .keyId) seqNum,
-        enciphered-length s (keyWords (k .key)) (k .source) seqNum payload,
+        enciphered-length s (k .edition) (keyWords (k .key)) (k .source) seqNum payload,
       )
 
   pub front-bytes : Bytes (k .keyId) → Bytes payload → Bytes (frontOf s k seqNum payload)
@@ -34,18 +34,18 @@ module _ (s : Suite) (k : KeyData) (seqNum : ℕ) (payload : List ℕ) where
   front-bytes id sent =
       let front = bytes-append (bytesOf 2 ((k .flag) * 2 ^ 15)) (bytesOf 1 (numberOf s)) (bytes-small 2 ((k .flag) * 2 ^ 15)) (bytes-small 1 (numberOf s)) in
       let named = bytes-append (bytesOf 2 ((k .flag) * 2 ^ 15) ++ bytesOf 1 (numberOf s)) (k .keyId) front id in
-      bytes-append (headerBytes (k .flag) s (k .keyId) seqNum) (enciphered s (keyWords (k .key)) (k .source) seqNum payload)
+      bytes-append (headerBytes (k .flag) s (k .keyId) seqNum) (enciphered s (k .edition) (keyWords (k .key)) (k .source) seqNum payload)
       (bytes-append (bytesOf 2 ((k .flag) * 2 ^ 15) ++ bytesOf 1 (numberOf s) ++ (k .keyId)) (bytesOf 6 seqNum) named (bytes-small 6 seqNum))
-      (enciphered-bytes s (keyWords (k .key)) (k .source) seqNum payload sent)
+      (enciphered-bytes s (k .edition) (keyWords (k .key)) (k .source) seqNum payload sent)
 
   -- the header is written, and the payload behind it
   pub front-written : (l : List ℕ) {l₁ l₂ : List ℕ} → l₁ ≡ put l 0 (headerBytes (k .flag) s (k .keyId) seqNum)
-      → l₂ ≡ put l₁ (fixedBytes + length (k .keyId)) (enciphered s (keyWords (k .key)) (k .source) seqNum payload) → l₂ ≡ put l 0 (frontOf s k seqNum payload)
+      → l₂ ≡ put l₁ (fixedBytes + length (k .keyId)) (enciphered s (k .edition) (keyWords (k .key)) (k .source) seqNum payload) → l₂ ≡ put l 0 (frontOf s k seqNum payload)
   unfolding frontOf
   front-written l {l₁} w₁ w₂ =
       let header : Written l 0 (headerBytes (k .flag) s (k .keyId) seqNum) l₁ (fixedBytes + length (k .keyId)) =
       record { ends = sym (zero-add _ ∙ header-length (k .flag) s (k .keyId) seqNum); is = w₁ } in
-      and-then header (omega arith) (enciphered s (keyWords (k .key)) (k .source) seqNum payload) _ refl w₂ .is
+      and-then header (omega arith) (enciphered s (k .edition) (keyWords (k .key)) (k .source) seqNum payload) _ refl w₂ .is
 
   module _ (l : List ℕ) {done : List ℕ} (is : done ≡ put l 0 (frontOf s k seqNum payload)) where
     -- it can be read off the output
@@ -54,11 +54,11 @@ module _ (s : Suite) (k : KeyData) (seqNum : ℕ) (payload : List ℕ) where
         rw is (take-put l 0 (frontOf s k seqNum payload) (fixedBytes + length (k .keyId) + length payload) (omega arith) (zero-add _ ∙ front-length))
 
     -- and the ICV comes behind it
-    pub sealed-written : {more : List ℕ} (icv n : ℕ) → icv ≡ icvOf s (keyWords (k .key)) (k .source) seqNum (take (fixedBytes + length (k .keyId) + length payload) done) → n ≡ icvLengthOf s
+    pub sealed-written : {more : List ℕ} (icv n : ℕ) → icv ≡ icvOf s (k .edition) (keyWords (k .key)) (k .source) seqNum (take (fixedBytes + length (k .keyId) + length payload) done) → n ≡ icvLengthOf s
         → more ≡ put done (fixedBytes + length (k .keyId) + length payload) (bytesOf n icv) → more ≡ put l 0 (sealed s k seqNum payload)
     unfolding sealed
     sealed-written icv n right long written =
         let front : Written l 0 (frontOf s k seqNum payload) done (fixedBytes + length (k .keyId) + length payload) =
         record { ends = sym (zero-add _ ∙ front-length); is = is } in
-        let check = icvOf s (keyWords (k .key)) (k .source) seqNum (frontOf s k seqNum payload) in
+        let check = icvOf s (k .edition) (keyWords (k .key)) (k .source) seqNum (frontOf s k seqNum payload) in
         and-then front (omega arith) (bytesOf (icvLengthOf s) check) _ refl (written ∙ rw (long, right, front-taken)) .is

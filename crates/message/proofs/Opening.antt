@@ -14,15 +14,15 @@ use Rattle.format.specs.Header.{endOf}
 use Rattle.format.specs.declared.header.Header.{Header}
 
 -- the number that stands in the message, and the ICV of what stands before it
-pub record Compared (h : Header) (key source m : List ℕ) (carried icv : ℕ) : Type 0 where
+pub record Compared (h : Header) (edition : ℕ) (key source m : List ℕ) (carried icv : ℕ) : Type 0 where
   pub carries : carried ≡ bigEndian (icvLengthOf (h .suite)) (drop (endOf h m) m)
-  pub should : icv ≡ icvOf (h .suite) (keyWords key) source (h .seqnum) (take (endOf h m) m)
+  pub should : icv ≡ icvOf (h .suite) edition (keyWords key) source (h .seqnum) (take (endOf h m) m)
 
-module _ {h : Header} {key source m : List ℕ} {carried icv : ℕ} (c : Compared h key source m carried icv) where
-  pub same-right : carried ≡ icv → rightUnder h key source m ≡ true
+module _ {h : Header} {edition : ℕ} {key source m : List ℕ} {carried icv : ℕ} (c : Compared h edition key source m carried icv) where
+  pub same-right : carried ≡ icv → rightUnder h edition key source m ≡ true
   unfolding rightUnder
   same-right e = rw (← c .carries, ← c .should, eq-eqb carried icv e)
 
-  pub other-wrong : (carried ≡ icv → ⊥) → rightUnder h key source m ≡ false
+  pub other-wrong : (carried ≡ icv → ⊥) → rightUnder h edition key source m ≡ false
   unfolding rightUnder
   other-wrong d = rw (← c .carries, ← c .should, ne-eqb carried icv d)

@@ -15,22 +15,22 @@ use Rattle.format.specs.declared.suite.Suite.{Suite}
 use Rattle.format.specs.declared.suite.Suite.the-variants.{MagmaCtr, MagmaNull}
 use Rattle.format.proofs.Suites.{icv-four}
 
-pub enciphered-length : (s : Suite) (base source : List ℕ) (seqNum : ℕ) (payload : List ℕ) → length (enciphered s base source seqNum payload) ≡ length payload
+pub enciphered-length : (s : Suite) (edition : ℕ) (base source : List ℕ) (seqNum : ℕ) (payload : List ℕ) → length (enciphered s edition base source seqNum payload) ≡ length payload
 unfolding enciphered
-enciphered-length MagmaCtr base source seqNum payload = counter-length _ _ _ payload
-enciphered-length MagmaNull base source seqNum payload = refl
+enciphered-length MagmaCtr edition base source seqNum payload = counter-length _ _ _ payload
+enciphered-length MagmaNull edition base source seqNum payload = refl
 
-pub enciphered-bytes : (s : Suite) (base source : List ℕ) (seqNum : ℕ) (payload : List ℕ) → Bytes payload → Bytes (enciphered s base source seqNum payload)
+pub enciphered-bytes : (s : Suite) (edition : ℕ) (base source : List ℕ) (seqNum : ℕ) (payload : List ℕ) → Bytes payload → Bytes (enciphered s edition base source seqNum payload)
 unfolding enciphered
-enciphered-bytes MagmaCtr base source seqNum payload h = counter-bytes _ _ _ payload h
-enciphered-bytes MagmaNull base source seqNum payload h = h
+enciphered-bytes MagmaCtr edition base source seqNum payload h = counter-bytes _ _ _ payload h
+enciphered-bytes MagmaNull edition base source seqNum payload h = h
 
-pub enciphered-twice : (s : Suite) (base source : List ℕ) (seqNum : ℕ) (payload : List ℕ)
-    → enciphered s base source seqNum (enciphered s base source seqNum payload) ≡ payload
+pub enciphered-twice : (s : Suite) (edition : ℕ) (base source : List ℕ) (seqNum : ℕ) (payload : List ℕ)
+    → enciphered s edition base source seqNum (enciphered s edition base source seqNum payload) ≡ payload
 unfolding enciphered
-enciphered-twice MagmaCtr base source seqNum payload = counter-twice _ _ _ payload
-enciphered-twice MagmaNull base source seqNum payload = refl
+enciphered-twice MagmaCtr edition base source seqNum payload = counter-twice _ _ _ payload
+enciphered-twice MagmaNull edition base source seqNum payload = refl
 
-pub icv-lt : (s : Suite) (base source : List ℕ) (seqNum : ℕ) (front : List ℕ) → Bytes front → icvOf s base source seqNum front < 2 ^ (8 * icvLengthOf s)
+pub icv-lt : (s : Suite) (edition : ℕ) (base source : List ℕ) (seqNum : ℕ) (front : List ℕ) → Bytes front → icvOf s edition base source seqNum front < 2 ^ (8 * icvLengthOf s)
 unfolding icvOf
-icv-lt s base source seqNum front h = rw (icv-four s) (omega (arith, check-lt front h (checkKey base s source seqNum)))
+icv-lt s edition base source seqNum front h = rw (icv-four s) (omega (arith, check-lt front h (checkKey base s edition source seqNum)))

@@ -30,13 +30,13 @@ module _ (s : Suite) (k : KeyData) (seqNum : ℕ) (payload : List ℕ) where
 
   -- header, payload as it is sent, and ICV
   abbrev sent : List ℕ
-  sent = enciphered s (keyWords (k .key)) (k .source) seqNum payload
+  sent = enciphered s (k .edition) (keyWords (k .key)) (k .source) seqNum payload
 
   abbrev front : List ℕ
   front = frontOf s k seqNum payload
 
   abbrev icv : ℕ
-  icv = icvOf s (keyWords (k .key)) (k .source) seqNum front
+  icv = icvOf s (k .edition) (keyWords (k .key)) (k .source) seqNum front
 
   pub sealed-length : length (sealed s k seqNum payload) ≡ fixedBytes + length (k .keyId) + length payload + icvLengthOf s
   unfolding sealed
@@ -62,13 +62,13 @@ module _ (s : Suite) (k : KeyData) (seqNum : ℕ) (payload : List ℕ) where
     pub sealed-reads : readOf (sealed s k seqNum payload) ≡ Read (headerFor (k .flag) s (k .keyId) seqNum)
     sealed-reads =
         let rest : length (sent ++ bytesOf (icvLengthOf s) icv) ≡ length payload + icvLengthOf s =
-        rw (length-append, length-bytes, enciphered-length s (keyWords (k .key)) (k .source) seqNum payload) in
+        rw (length-append, length-bytes, enciphered-length s (k .edition) (keyWords (k .key)) (k .source) seqNum payload) in
         ap readOf in-parts ∙ read-written (k .flag) s (k .keyId) seqNum (sent ++ bytesOf (icvLengthOf s) icv) w (omega arith) (omega arith)
 
     pub sealed-right : Bytes payload → right (headerFor (k .flag) s (k .keyId) seqNum) k (sealed s k seqNum payload) ≡ true
     sealed-right bytes =
-        let small = icv-lt s (keyWords (k .key)) (k .source) seqNum front (front-bytes s k seqNum payload (w .keyid-bytes) bytes) in
-        let c : Compared (headerFor (k .flag) s (k .keyId) seqNum) (k .key) (k .source) message icv icv = record {
+        let small = icv-lt s (k .edition) (keyWords (k .key)) (k .source) seqNum front (front-bytes s k seqNum payload (w .keyid-bytes) bytes) in
+        let c : Compared (headerFor (k .flag) s (k .keyId) seqNum) (k .edition) (k .key) (k .source) message icv icv = record {
           carries = rw icv-there (sym (number-bytes (icvLengthOf s) icv ∙ mod-eq-of-lt small));
           should = rw front-there;
         } in
@@ -85,8 +85,8 @@ module _ (s : Suite) (k : KeyData) (seqNum : ℕ) (payload : List ℕ) where
     payload-there =
         rw (sealed-payload-length, payload-place, in-parts)
         (ap (take (length payload)) (drop-at (headerBytes (k .flag) s (k .keyId) seqNum) (sent ++ bytesOf (icvLengthOf s) icv) (fixedBytes + length (k .keyId)) (header-length (k .flag) s (k .keyId) seqNum))
-        ∙ take-at sent (bytesOf (icvLengthOf s) icv) (length payload) (enciphered-length s (keyWords (k .key)) (k .source) seqNum payload))
+        ∙ take-at sent (bytesOf (icvLengthOf s) icv) (length payload) (enciphered-length s (k .edition) (keyWords (k .key)) (k .source) seqNum payload))
 
     pub sealed-opens : opened (headerFor (k .flag) s (k .keyId) seqNum) k (sealed s k seqNum payload) ≡ payload
     unfolding openedUnder
-    sealed-opens = rw payload-there (enciphered-twice s (keyWords (k .key)) (k .source) seqNum payload)
+    sealed-opens = rw payload-there (enciphered-twice s (k .edition) (keyWords (k .key)) (k .source) seqNum payload)

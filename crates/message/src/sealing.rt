@@ -61,17 +61,42 @@ pub fn seal_under(
     header::write_header(terms.flag, suite, keyid, seqnum, out);
     let start = header::FIXED + keyid.len();
     let end = start + payload.len();
-    encipher(base, subkeys, suite, source, seqnum, payload, out, start);
-    let icv = icv(base, subkeys, suite, source, seqnum, &out[..end]);
+    encipher(
+        base,
+        subkeys,
+        suite,
+        terms.edition,
+        source,
+        seqnum,
+        payload,
+        out,
+        start,
+    );
+    let icv = icv(
+        base,
+        subkeys,
+        suite,
+        terms.edition,
+        source,
+        seqnum,
+        &out[..end],
+    );
     octets::write(out, end, suite.icv_length(), icv);
     end + suite.icv_length()
 }
 
-// The payload of a message whose header was read is written at the start of the output, if the ICV is right.
-pub fn open(header: Header, key: &[u8], source: &[u8], message: &[u8], out: &mut [u8]) -> Opened
+// The payload of a message whose header was read is written at the start of the output, if the ICV is right in that edition.
+pub fn open(
+    header: Header,
+    edition: u8,
+    key: &[u8],
+    source: &[u8],
+    message: &[u8],
+    out: &mut [u8],
+) -> Opened
     requires { ⌜ (readOf (now message) ≡ Read header) × (length (now key) ≡ 32) × (length (now source) ≤ 32) × (length (now message) ≤ length (now out)) ⌝ }
-    ensures { λ r. ⌜ r ≡ openedAs header (now (key .entry)) (now (source .entry)) (now (message .entry)) ⌝ }
-    ensures { λ r. ⌜ now (out .exit) ≡ outputAfter header (now (key .entry)) (now (source .entry)) (now (message .entry)) (now (out .entry)) ⌝ }
+    ensures { λ r. ⌜ r ≡ openedAs header edition (now (key .entry)) (now (source .entry)) (now (message .entry)) ⌝ }
+    ensures { λ r. ⌜ now (out .exit) ≡ outputAfter header edition (now (key .entry)) (now (source .entry)) (now (message .entry)) (now (out .entry)) ⌝ }
 {
     let base = modes::key_words(key);
     let subkeys = modes::subkeys_of(&base);
@@ -83,6 +108,7 @@ pub fn open(header: Header, key: &[u8], source: &[u8], message: &[u8], out: &mut
         &base,
         subkeys,
         suite,
+        edition,
         source,
         header.seqnum,
         &message[..end],
@@ -94,6 +120,7 @@ pub fn open(header: Header, key: &[u8], source: &[u8], message: &[u8], out: &mut
         &base,
         subkeys,
         suite,
+        edition,
         source,
         header.seqnum,
         &message[start..end],
@@ -108,14 +135,23 @@ fn icv(
     base: &[u32; 8],
     subkeys: Subkeys,
     suite: Suite,
+    edition: u8,
     source: &[u8],
     seqnum: u64,
     front: &[u8],
 ) -> u64
     requires { ⌜ (subkeys .first ≡ firstSubkey 8 0x1b (encrypted (now base))) × (subkeys .second ≡ secondSubkey 8 0x1b (encrypted (now base))) × (length (now source) ≤ 32) ⌝ }
-    ensures { λ r. ⌜ r ≡ icvOf suite (now (base .entry)) (now (source .entry)) seqnum (now (front .entry)) ⌝ }
+    ensures { λ r. ⌜ r ≡ icvOf suite edition (now (base .entry)) (now (source .entry)) seqnum (now (front .entry)) ⌝ }
 {
-    let key = derivation::derived_key(base, subkeys, suite, source, seqnum, derivation::CHECK);
+    let key = derivation::derived_key(
+        base,
+        subkeys,
+        suite,
+        edition,
+        source,
+        seqnum,
+        derivation::CHECK,
+    );
     modes::check_value(&key, front) >> (8 * (8 - suite.icv_length() as u64))
 }
 
@@ -124,6 +160,7 @@ fn encipher(
     base: &[u32; 8],
     subkeys: Subkeys,
     suite: Suite,
+    edition: u8,
     source: &[u8],
     seqnum: u64,
     payload: &[u8],
@@ -131,10 +168,18 @@ fn encipher(
     at: usize,
 )
     requires { ⌜ (subkeys .first ≡ firstSubkey 8 0x1b (encrypted (now base))) × (subkeys .second ≡ secondSubkey 8 0x1b (encrypted (now base))) × (length (now source) ≤ 32) × (at + length (now payload) ≤ length (now out)) × (length (now payload) ≤ 2 ^ 35) ⌝ }
-    ensures { λ _. ⌜ now (out .exit) ≡ put (now (out .entry)) at (enciphered suite (now (base .entry)) (now (source .entry)) seqnum (now (payload .entry))) ⌝ }
+    ensures { λ _. ⌜ now (out .exit) ≡ put (now (out .entry)) at (enciphered suite edition (now (base .entry)) (now (source .entry)) seqnum (now (payload .entry))) ⌝ }
 {
     if suite.enciphers() {
-        let key = derivation::derived_key(base, subkeys, suite, source, seqnum, derivation::CIPHER);
+        let key = derivation::derived_key(
+            base,
+            subkeys,
+            suite,
+            edition,
+            source,
+            seqnum,
+            derivation::CIPHER,
+        );
         modes::counter(&key, (seqnum % 4294967296) as u32, payload, out, at);
     } else {
         octets::copy(payload, out, at);

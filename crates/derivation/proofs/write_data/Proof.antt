@@ -9,13 +9,20 @@ use Rattle.derivation.proofs.write_data.Tie as tie
 
 -- where the source was written: the label before it, and what the function began with
 abbrev first : tie.After-copy2 → tie.After-copy
-first c = c .before .before .before .before .before .before .before .before .before .before .before .before
+first c = c .before .before .before .before .before .before .before .before .before .before .before .before .before
 
 abbrev start : tie.After-copy2 → tie.Start
 start c = first c .before .before .before .before .before .before
 
+-- and from the last write
+abbrev source-copied : tie.After-write-arg5 → tie.After-copy2
+source-copied c = c .before .before .before .before .before .before .before .before .before .before .before .before
+
+add-write-3 : tie.Need-add-write-3
+add-write-3 c = let p = start (source-copied c) .pre in omega arith
+
 write-requires-5 : tie.Need-write-requires-5
-write-requires-5 c κs = let a = start (c .before .before .before .before .before .before .before .before .before .before .before .before .before) .pre in omega arith
+write-requires-5 c κs = let p = start (source-copied (c .before)) .pre in omega arith
 
 returns : tie.Need-returns
 returns c =
@@ -24,12 +31,12 @@ returns c =
     let fifth = sixth .before .before .before .before in
     let fourth = fifth .before .before .before .before .before in
     let third = fourth .before .before .before .before in
-    let second = third .before .before .before .before in
+    let second = third .before .before .before .before .before in
     let first = second .before .before .before .before in
     let start = first .before .before .before .before .before .before in
     let label : first .before .before .before .label .result ≡ labelOf (start .args .suite) = first .before .before .before .label .ensures in
-    data-written (start .args .suite) (start .args .source .now) (start .args .seqnum) (start .args .out .now) (omega (arith, start .pre .1))
-    (rw label at (first .copy .ensures)) (second .write .ensures) (third .write2 .ensures) (fourth .copy2 .ensures)
+    data-written (start .args .suite) (start .args .edition) (start .args .source .now) (start .args .seqnum) (start .args .out .now) (omega (arith, start .pre .1))
+    (rw label at (first .copy .ensures)) (second .write .ensures) (rw (third .before .serial .ensures) at (third .write2 .ensures)) (fourth .copy2 .ensures)
     (rw (fifth .before .number .ensures) at (fifth .write3 .ensures)) (sixth .write4 .ensures)
     (rw (seventh .before .output-bits .ensures) at (seventh .write5 .ensures))
 
@@ -38,8 +45,10 @@ write-data-spec =
     tie.close
     (tie.spec
     (λ c κs. search needs) (λ c. search needs) (λ c κs. search needs) (λ c κs. search needs) (λ c κs. search needs) (λ c κs. search needs)
-    (λ c. search needs) (λ c κs. search needs) (λ c. search needs) (λ c κs. search needs) (λ c. search needs) (λ c. search needs)
-    (λ c κs. search needs) (λ c. search needs) (λ c κs. search needs)
+    (λ c κs. search needs) (λ c. search needs) (λ c κs. search needs) (λ c. search needs) (λ c κs. search needs) (λ c. search needs) (λ c. search needs)
+    (λ c κs. search needs)
+    add-write-3
+    (λ c κs. search needs)
     write-requires-5
     (λ c. search needs)
     returns)

@@ -24,7 +24,7 @@ read-requires c κs =
 
 compared : (c : tie.After-read)
     → let a = start (c .before .before .before .before .before .before) .args in
-    Compared (a .header) (a .key .now) (a .source .now) (a .message .now) (c .read .result) (c .before .before .icv .result)
+    Compared (a .header) (a .edition) (a .key .now) (a .source .now) (a .message .now) (c .read .result) (c .before .before .icv .result)
 compared c =
     let icv = c .before .before in
     let long = icv .before .before .before .icv-length .ensures in

@@ -28,7 +28,7 @@ keys s key = let a = s .args in keyed (a .terms) (a .keyid .now) (a .source .now
 -- the output as the ICV finds it, for a key with these words
 written : (c : tie.After-icv-arg) (key : List ℕ) → keyWords key ≡ start c .args .base .now
     → let a = start c .args in
-    c .before .before .before .encipher .last .1 .1 .1 .1 .1 .1 .0
+    c .before .before .before .encipher .last .1 .1 .1 .1 .1 .1 .1 .0
     ≡ put (a .out .now) 0 (frontOf (a .suite) (keys (start c) key) (a .seqnum) (a .payload .now))
 written c key words =
     let a = start c .args in
