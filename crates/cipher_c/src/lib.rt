@@ -9,6 +9,7 @@ ghost use Rattle.magma.specs.Magma.{encrypted};
 ghost use Rattle.modes.specs.Modes.{magmaCheck, magmaCounter};
 ghost use Rattle.derivation.specs.Derivation.{keyFrom};
 ghost use Rattle.format.specs.declared.suite.Suite.the-variants.{MagmaCtr, MagmaNull};
+use format::key_data;
 use format::suite::Suite;
 
 // The most bytes that the counter mode here takes.
@@ -61,11 +62,16 @@ pub extern "C" fn cipher_counter(
     true
 }
 
-// The keys of suite 1 for a source of 12 bytes.
+// The keys of suite 1, in an edition, for a source of 12 bytes.
 #[no_mangle]
-pub extern "C" fn cipher_keys_1(base: &[u32; 8], source: &[u8; 12], seqnum: u64) -> BothKeys
-    ensures { λ r. ⌜ r .check ≡ keyFrom (now (base .entry)) MagmaCtr (now (source .entry)) seqnum 1 ⌝ }
-    ensures { λ r. ⌜ r .cipher ≡ keyFrom (now (base .entry)) MagmaCtr (now (source .entry)) seqnum 5 ⌝ }
+pub extern "C" fn cipher_keys_1(
+    base: &[u32; 8],
+    edition: u8,
+    source: &[u8; 12],
+    seqnum: u64,
+) -> BothKeys
+    ensures { λ r. ⌜ r .check ≡ keyFrom (now (base .entry)) MagmaCtr edition (now (source .entry)) seqnum 1 ⌝ }
+    ensures { λ r. ⌜ r .cipher ≡ keyFrom (now (base .entry)) MagmaCtr edition (now (source .entry)) seqnum 5 ⌝ }
 {
     let subkeys = modes::subkeys_of(base);
     BothKeys {
@@ -73,6 +79,7 @@ pub extern "C" fn cipher_keys_1(base: &[u32; 8], source: &[u8; 12], seqnum: u64)
             base,
             subkeys,
             Suite::MagmaCtr,
+            edition,
             source,
             seqnum,
             derivation::CHECK,
@@ -81,6 +88,7 @@ pub extern "C" fn cipher_keys_1(base: &[u32; 8], source: &[u8; 12], seqnum: u64)
             base,
             subkeys,
             Suite::MagmaCtr,
+            edition,
             source,
             seqnum,
             derivation::CIPHER,
@@ -91,7 +99,7 @@ pub extern "C" fn cipher_keys_1(base: &[u32; 8], source: &[u8; 12], seqnum: u64)
 // The key of suite 2 for a source of 12 bytes.
 #[no_mangle]
 pub extern "C" fn cipher_key_2(base: &[u32; 8], source: &[u8; 12], seqnum: u64) -> CheckKey
-    ensures { λ r. ⌜ r .check ≡ keyFrom (now (base .entry)) MagmaNull (now (source .entry)) seqnum 1 ⌝ }
+    ensures { λ r. ⌜ r .check ≡ keyFrom (now (base .entry)) MagmaNull 2 (now (source .entry)) seqnum 1 ⌝ }
 {
     let subkeys = modes::subkeys_of(base);
     CheckKey {
@@ -99,6 +107,7 @@ pub extern "C" fn cipher_key_2(base: &[u32; 8], source: &[u8; 12], seqnum: u64) 
             base,
             subkeys,
             Suite::MagmaNull,
+            key_data::MSB,
             source,
             seqnum,
             derivation::CHECK,

@@ -23,13 +23,14 @@ pub extern "C" fn crisp_install(
     keyid: &[u8],
     source: &[u8],
     suite: u8,
+    edition: u8,
     key: &[u8],
     size: u64,
     start: u64,
 ) -> Answer
-    ensures { λ r. ⌜ IsLeft (installed (now (table .entry)) (handedIn flag (now (keyid .entry)) (now (source .entry)) suite (now (key .entry))) (record { size = size; start = start })) r (now (table .exit)) ⌝ }
+    ensures { λ r. ⌜ IsLeft (installed (now (table .entry)) (handedIn flag (now (keyid .entry)) (now (source .entry)) suite edition (now (key .entry))) (record { size = size; start = start })) r (now (table .exit)) ⌝ }
 {
-    entries::install(table, flag, keyid, source, suite, key, size, start)
+    entries::install(table, flag, keyid, source, suite, edition, key, size, start)
 }
 
 // As `entries::remove`.

@@ -1,4 +1,4 @@
--- Sound key data keeps within the parts of a slot: a KeyId has at most 128 bytes, and a suite's number is a byte.
+-- Sound key data keeps within the parts of a slot: a KeyId has at most 128 bytes, and a suite's number and an edition are bytes.
 -- Assumes nothing.
 use mathlib.Core.Path.{_≡_, ap, _∙_}
 use mathlib.Core.Bool.{true, false≢true}

@@ -16,18 +16,18 @@ use Rattle.window.specs.Entry.{freshEntry}
 use Rattle.window.specs.Window.{soundFrame}
 use Rattle.window.proofs.Entries.{entry-test, fresh-entry-undamaged}
 use Rattle.window.proofs.Undamaged.{SoundFrame, frame-facts}
-use Rattle.slots.specs.Table.{flagOf, csOf, keyIdLengthOf, keyIdOf, sourceLengthOf, sourceOf, keyOf, entryOf, slotLength, occupiedAt, highestAt, marksAt, acceptedAt, bytesAt, keyIdRoom, sourceRoom, keyDataOf}
+use Rattle.slots.specs.Table.{flagOf, csOf, editionOf, keyIdLengthOf, keyIdOf, sourceLengthOf, sourceOf, keyOf, entryOf, slotLength, occupiedAt, highestAt, marksAt, acceptedAt, bytesAt, keyIdRoom, sourceRoom, keyDataOf}
 use Rattle.slots.specs.Record.{undamaged}
 use Rattle.entries.specs.Fresh.{padded, prefixed, headOf, frameBytes, freshSlot}
-use Rattle.entries.proofs.Bounds.{keyid-most, suite-byte}
+use Rattle.entries.proofs.Bounds.{keyid-most, suite-byte, edition-byte}
 use Rattle.slots.proofs.Damage.{undamaged-by-entry}
 use Rattle.lookup.specs.Lookup.{matches}
 use Rattle.lookup.proofs.Matching.{match-test}
 use Rattle.slots.proofs.Standing.{Lies, joined, ahead, lies, starts-with, piece, number, byte, zeros}
 use Rattle.entries.proofs.Stretches.{length-padded}
 
-pub length-head : (flag suite : ℕ) → length (headOf flag suite) ≡ 4
-length-head flag suite = simp (length-append, length-bytes)
+pub length-head : (flag suite edition : ℕ) → length (headOf flag suite edition) ≡ 4
+length-head flag suite edition = simp (length-append, length-bytes)
 
 pub length-frame : (f : Frame) → length (frameBytes f) ≡ 16
 length-frame f = simp (length-append, length-bytes)
@@ -37,6 +37,7 @@ pub record Parts (k : KeyData) (s : List ℕ) : Type 0 where
   pub first : getD s occupiedAt 0 ≡ 1
   pub flag-is : flagOf s ≡ k .flag
   pub cs-is : csOf s ≡ k .suite
+  pub edition-is : editionOf s ≡ k .edition
   pub keyid-length : keyIdLengthOf s ≡ length (k .keyId)
   pub keyid-is : keyIdOf s ≡ k .keyId
   pub source-length : sourceLengthOf s ≡ length (k .source)
@@ -44,13 +45,13 @@ pub record Parts (k : KeyData) (s : List ℕ) : Type 0 where
   pub key-is : keyOf s ≡ k .key
 
 parts-keydata : {k : KeyData} {s : List ℕ} → Parts k s → keyDataOf s ≡ k
-parts-keydata p = key-data-is (p .flag-is) (p .keyid-is) (p .source-is) (p .cs-is) (p .key-is)
+parts-keydata p = key-data-is (p .flag-is) (p .keyid-is) (p .source-is) (p .cs-is) (p .edition-is) (p .key-is)
 
 -- of key data that is sound, with a KeyId of bytes
 module _ {k : KeyData} (sound : Sound k) (b : getD (k .keyId) 0 0 < 256) (f : Frame) where
   -- all but the zeros at the end
   abbrev filled : List ℕ
-  filled = headOf (k .flag) (k .suite) ++ prefixed keyIdRoom (k .keyId) ++ prefixed sourceRoom (k .source) ++ k .key ++ frameBytes f
+  filled = headOf (k .flag) (k .suite) (k .edition) ++ prefixed keyIdRoom (k .keyId) ++ prefixed sourceRoom (k .source) ++ k .key ++ frameBytes f
 
   length-filled : length filled ≡ highestAt
   length-filled =
@@ -63,7 +64,7 @@ module _ {k : KeyData} (sound : Sound k) (b : getD (k .keyId) 0 0 < 256) (f : Fr
   -- the stretches that it is made of, and their lengths
   abbrev stretches : List (List ℕ)
   stretches =
-      bytesOf 1 1 ∷ bytesOf 1 (k .flag) ∷ bytesOf 1 (k .suite) ∷ bytesOf 1 0
+      bytesOf 1 1 ∷ bytesOf 1 (k .flag) ∷ bytesOf 1 (k .suite) ∷ bytesOf 1 (k .edition)
       ∷ bytesOf 1 (length (k .keyId)) ∷ padded keyIdRoom (k .keyId) ∷ bytesOf 1 (length (k .source)) ∷ padded sourceRoom (k .source)
       ∷ k .key ∷ bytesOf 8 (f .size) ∷ bytesOf 8 (f .start) ∷ replicate (slotLength - highestAt) 0 ∷ []
 
@@ -89,6 +90,7 @@ module _ {k : KeyData} (sound : Sound k) (b : getD (k .keyId) 0 0 < 256) (f : Fr
         first = byte 1 (there 0) (lit< tt);
         flag-is = byte (k .flag) (there 1) (omega (arith, sound .flag-small));
         cs-is = byte (k .suite) (there 2) (suite-byte sound);
+        edition-is = byte (k .edition) (there 3) (edition-byte sound);
         keyid-length = keyid;
         keyid-is = rw keyid (piece (starts-with (k .keyId) (replicate (keyIdRoom - length (k .keyId)) 0) (there 5)));
         source-length = source;

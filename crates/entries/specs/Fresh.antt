@@ -1,5 +1,5 @@
 -- A fresh entry's slot (01, "Replies": "so do an installed entry's places past its KeyId and identifier" hold zeros only; "starts fresh"; 02, No. 2:
--- "Install must take a start number, .. and the entry keeps it").
+-- "Install must take a start number, .. and the entry keeps it"; No. 4: "Key data gets an edition").
 use mathlib.Core.List.{List, _++_}
 use Prim.Native.Nat.{ℕ, _-_}
 use lib.ListN.{length, replicate}
@@ -16,9 +16,9 @@ padded n bytes = bytes ++ replicate (n - length bytes) 0
 abbrev pub prefixed : ℕ → List ℕ → List ℕ
 prefixed room bytes = bytesOf 1 (length bytes) ++ padded room bytes
 
--- the first bytes of an occupied slot: occupied, flag, suite, and a place that is kept
-abbrev pub headOf : ℕ → ℕ → List ℕ
-headOf flag suite = bytesOf 1 1 ++ bytesOf 1 flag ++ bytesOf 1 suite ++ bytesOf 1 0
+-- the first bytes of an occupied slot: occupied, flag, suite, edition
+abbrev pub headOf : ℕ → ℕ → ℕ → List ℕ
+headOf flag suite edition = bytesOf 1 1 ++ bytesOf 1 flag ++ bytesOf 1 suite ++ bytesOf 1 edition
 
 -- what is settled of the window
 abbrev pub frameBytes : Frame → List ℕ
@@ -28,4 +28,4 @@ frameBytes f = bytesOf 8 (f .size) ++ bytesOf 8 (f .start)
 unfoldable pub freshSlot : KeyData → Frame → List ℕ
 freshSlot k f =
     padded slotLength
-    (headOf (k .flag) (k .suite) ++ prefixed keyIdRoom (k .keyId) ++ prefixed sourceRoom (k .source) ++ k .key ++ frameBytes f)
+    (headOf (k .flag) (k .suite) (k .edition) ++ prefixed keyIdRoom (k .keyId) ++ prefixed sourceRoom (k .source) ++ k .key ++ frameBytes f)

@@ -1,4 +1,5 @@
--- Install and remove (01, "Replies"): install refuses with 13, 14, 15 in that order, remove with 16. 02, No. 2: "a larger start gives 13 at install".
+-- Install and remove (01, "Replies"): install refuses with 13, 14, 15 in that order, remove with 16. 02, No. 2: "a larger start gives 13 at
+-- install", No. 4: "another edition, or 1 with a suite other than 1, gives 13 at install".
 use mathlib.Core.Path.{_≡_}
 use mathlib.Core.Bool.{cond, _&&_}
 use mathlib.Core.List.{List}

@@ -46,12 +46,12 @@ pub(crate) fn write_entry(
 // The first bytes of an occupied slot.
 fn write_head(table: &mut [u8], at: usize, terms: Terms)
     requires { ⌜ at + 4 ≤ length (now table) ⌝ }
-    ensures { λ _. ⌜ now (table .exit) ≡ put (now (table .entry)) at (headOf (terms .flag) (terms .suite)) ⌝ }
+    ensures { λ _. ⌜ now (table .exit) ≡ put (now (table .entry)) at (headOf (terms .flag) (terms .suite) (terms .edition)) ⌝ }
 {
     octets::write(table, at, 1, 1);
     octets::write(table, at + layout::FLAG, 1, terms.flag as u64);
     octets::write(table, at + layout::SUITE, 1, terms.suite as u64);
-    octets::write(table, at + layout::EDITION, 1, 0);
+    octets::write(table, at + layout::EDITION, 1, terms.edition as u64);
 }
 
 // What is settled of the window, in the slot that begins at `at`.

@@ -17,13 +17,18 @@ pub fn install(
     keyid: &[u8],
     source: &[u8],
     suite: u8,
+    edition: u8,
     key: &[u8],
     size: u64,
     start: u64,
 ) -> Answer
-    ensures { λ r. ⌜ IsLeft (installed (now (table .entry)) (handedIn flag (now (keyid .entry)) (now (source .entry)) suite (now (key .entry))) (record { size = size; start = start })) r (now (table .exit)) ⌝ }
+    ensures { λ r. ⌜ IsLeft (installed (now (table .entry)) (handedIn flag (now (keyid .entry)) (now (source .entry)) suite edition (now (key .entry))) (record { size = size; start = start })) r (now (table .exit)) ⌝ }
 {
-    let terms = Terms { flag, suite };
+    let terms = Terms {
+        flag,
+        suite,
+        edition,
+    };
     let frame = Frame { size, start };
     installing::install_in(table, terms, keyid, source, key, frame)
 }

@@ -1,6 +1,6 @@
 -- 01's listing of an entry ("Numbers on both sides of the edge"), from `slot=` to `bytes=`: "Each line ends with a line feed. keyid, source,
 -- highest, marks are lower-case hex, two digits a byte, highest 12 digits and marks 64; the rest is decimal." 02, No. 2: "The listing gets `start=`
--- in decimal after `size=`."
+-- in decimal after `size=`." No. 4: "The listing gets `edition=` after `suite=`."
 use mathlib.Core.Path.{_≡_}
 use mathlib.Core.Bool.{cond, _&&_}
 use mathlib.Core.List.{List, [], _∷_, _++_}
@@ -11,10 +11,10 @@ use Rattle.octets.specs.Octets.{bytesOf, put}
 use Rattle.text.specs.Text.{decimalLine, hexLine}
 use Rattle.answers.specs.Answers.{refused, outputRoom, outputSmall, damaged, noSlot}
 use Rattle.answers.specs.declared.Answer.{Answer}
-use Rattle.slots.specs.Table.{slotOf, occupied, flagOf, csOf, keyIdOf, sourceOf, entryOf, slotCount}
+use Rattle.slots.specs.Table.{slotOf, occupied, flagOf, csOf, editionOf, keyIdOf, sourceOf, entryOf, slotCount}
 use Rattle.slots.specs.Record.{undamaged}
 
--- the names of the lines: slot= flag= keyid= source= suite= size= start= highest= marks= accepted= bytes=
+-- the names of the lines: slot= flag= keyid= source= suite= edition= size= start= highest= marks= accepted= bytes=
 abbrev pub slotName : List ℕ
 slotName = 115 ∷ 108 ∷ 111 ∷ 116 ∷ 61 ∷ []
 
@@ -29,6 +29,9 @@ sourceName = 115 ∷ 111 ∷ 117 ∷ 114 ∷ 99 ∷ 101 ∷ 61 ∷ []
 
 abbrev pub suiteName : List ℕ
 suiteName = 115 ∷ 117 ∷ 105 ∷ 116 ∷ 101 ∷ 61 ∷ []
+
+abbrev pub editionName : List ℕ
+editionName = 101 ∷ 100 ∷ 105 ∷ 116 ∷ 105 ∷ 111 ∷ 110 ∷ 61 ∷ []
 
 abbrev pub sizeName : List ℕ
 sizeName = 115 ∷ 105 ∷ 122 ∷ 101 ∷ 61 ∷ []
@@ -59,6 +62,7 @@ namedLines i s =
 unfoldable pub termLines : List ℕ → List ℕ
 termLines s =
     decimalLine suiteName (csOf s)
+    ++ decimalLine editionName (editionOf s)
     ++ decimalLine sizeName (entryOf s .window .frame .size)
     ++ decimalLine startName (entryOf s .window .frame .start)
 

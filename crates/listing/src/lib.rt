@@ -80,8 +80,9 @@ fn write_terms(slot: &[u8], out: &mut [u8], at: usize) -> usize
     ensures { λ r. ⌜ now (out .exit) ≡ put (now (out .entry)) at (termLines (now (slot .entry))) ⌝ }
 {
     let a = text::write_decimal_line(b"suite=", slot[layout::SUITE] as u64, out, at);
-    let b = text::write_decimal_line(b"size=", octets::read(slot, layout::SIZE, 8), out, a);
-    text::write_decimal_line(b"start=", octets::read(slot, layout::START, 8), out, b)
+    let b = text::write_decimal_line(b"edition=", slot[layout::EDITION] as u64, out, a);
+    let c = text::write_decimal_line(b"size=", octets::read(slot, layout::SIZE, 8), out, b);
+    text::write_decimal_line(b"start=", octets::read(slot, layout::START, 8), out, c)
 }
 
 // The lines that the arrivals moved, from `at` on. Answers where they end.

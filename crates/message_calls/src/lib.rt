@@ -18,7 +18,7 @@ pub fn key(operands: &[u8]) -> [u32; 8] {
     modes::key_words(bytes)
 }
 
-// Suite, SeqNum and the number of a block: the block, or, of command 12, the next.
+// Suite, edition, SeqNum and the number of a block: the block, or, of command 12, the next.
 pub fn derived_block(command: usize, operands: &[u8]) -> u64 {
     let source = script::operand(operands, 1);
     if 32 < source.len() {
@@ -30,9 +30,10 @@ pub fn derived_block(command: usize, operands: &[u8]) -> u64 {
     };
     let base = key(operands);
     let subkeys = modes::subkeys_of(&base);
-    let seqnum = script::number(operands, 3);
-    let first = script::byte(operands, 4) % 6;
-    let key = derivation::derived_key(&base, subkeys, suite, source, seqnum, first);
+    let edition = script::byte(operands, 3);
+    let seqnum = script::number(operands, 4);
+    let first = script::byte(operands, 5) % 6;
+    let key = derivation::derived_key(&base, subkeys, suite, edition, source, seqnum, first);
     match command {
         12 => pair(key[2], key[3]),
         _ => pair(key[0], key[1]),
@@ -43,7 +44,7 @@ fn pair(high: u32, low: u32) -> u64 {
     (high as u64) * 4294967296 + (low as u64)
 }
 
-// Suite, SeqNum, flag, KeyId and payload: the message is written into the output. Answers its length.
+// Suite, edition, SeqNum, flag, KeyId and payload: the message is written into the output. Answers its length.
 fn seal(operands: &[u8], out: &mut [u8]) -> usize {
     let key = script::operand(operands, 0);
     if key.len() != 32 {
@@ -57,8 +58,8 @@ fn seal(operands: &[u8], out: &mut [u8]) -> usize {
     let Numbered::Known(suite) = numbered else {
         return GREATEST;
     };
-    let keyid = script::operand(operands, 5);
-    let payload = script::operand(operands, 6);
+    let keyid = script::operand(operands, 6);
+    let payload = script::operand(operands, 7);
     let room = header::FIXED + keyid.len() + payload.len();
     if out.len() < room {
         return GREATEST;
@@ -67,8 +68,9 @@ fn seal(operands: &[u8], out: &mut [u8]) -> usize {
         return GREATEST;
     }
     let terms = Terms {
-        flag: script::byte(operands, 4) % 2,
+        flag: script::byte(operands, 5) % 2,
         suite: script::byte(operands, 2),
+        edition: script::byte(operands, 3),
     };
     sealing::seal(
         suite,
@@ -76,14 +78,14 @@ fn seal(operands: &[u8], out: &mut [u8]) -> usize {
         keyid,
         source,
         key,
-        script::number(operands, 3) % 281474976710656,
+        script::number(operands, 4) % 281474976710656,
         payload,
         out,
     )
 }
 
-// The payload of a message is written into the output. Answers its length.
-fn open(operands: &[u8], message: &[u8], out: &mut [u8]) -> usize {
+// The payload of a message in that edition is written into the output. Answers its length.
+fn open(operands: &[u8], edition: u8, message: &[u8], out: &mut [u8]) -> usize {
     let key = script::operand(operands, 0);
     if key.len() != 32 {
         return GREATEST;
@@ -99,7 +101,7 @@ fn open(operands: &[u8], message: &[u8], out: &mut [u8]) -> usize {
     let Parsed::Read(read) = parsed else {
         return GREATEST;
     };
-    let found = sealing::open(read, key, source, message, out);
+    let found = sealing::open(read, edition, key, source, message, out);
     let Opened::Payload(length) = found else {
         return GREATEST;
     };
@@ -113,24 +115,29 @@ pub fn show_sealed(line: &[u8], operands: &[u8]) -> u64 {
     let message = script::part(&out, 0, end);
     script::show(
         line,
-        script::part(message, script::number(operands, 7) as usize, end),
+        script::part(message, script::number(operands, 8) as usize, end),
     );
     again(operands, message)
 }
 
 fn again(operands: &[u8], message: &[u8]) -> u64 {
     let mut out = [0u8; GREATEST];
-    let length = open(operands, message, &mut out);
+    let length = open(operands, script::byte(operands, 3), message, &mut out);
     let payload = script::part(&out, 0, length);
-    if octets::equal(payload, script::operand(operands, 6)) {
+    if octets::equal(payload, script::operand(operands, 7)) {
         return 2 * (payload.len() as u64) + 1;
     }
     2 * (payload.len() as u64)
 }
 
-// Message: the payload.
+// Edition and message: the payload.
 pub fn show_opened(line: &[u8], operands: &[u8]) {
     let mut out = [0xaau8; GREATEST];
-    let length = open(operands, script::operand(operands, 2), &mut out);
+    let length = open(
+        operands,
+        script::byte(operands, 2),
+        script::operand(operands, 3),
+        &mut out,
+    );
     script::show(line, script::part(&out, 0, length));
 }

@@ -8,7 +8,7 @@ use sender::Keys;
 use sender::Protected;
 use sender::Sender;
 
-// Flag, KeyId, source, suite, key, number, payload, and by how many bytes the output falls short of 2,048. Shown is
+// Flag, KeyId, source, suite, edition, key, number, payload, and by how many bytes the output falls short of 2,048. Shown is
 // 6 the reply, 7 the number after the call, 8 the message.
 pub fn run(command: usize, line: &[u8], operands: &[u8]) {
     let mut out = [0u8; OUTPUT];
@@ -24,13 +24,13 @@ pub fn run(command: usize, line: &[u8], operands: &[u8]) {
 fn protect(operands: &[u8], out: &mut [u8]) -> Protected
     requires { ⌜ length (now out) ≡ outputRoom ⌝ }
 {
-    let length = OUTPUT - (script::byte(operands, 7) as usize);
+    let length = OUTPUT - (script::byte(operands, 8) as usize);
     let keys = keys(operands);
     let sender = Sender {
         keys: keys,
-        current: script::number(operands, 5),
+        current: script::number(operands, 6),
     };
-    sender::protect_by_value(sender, script::operand(operands, 6), &mut out[0..length])
+    sender::protect_by_value(sender, script::operand(operands, 7), &mut out[0..length])
 }
 
 // The record's key data: the lengths are those of the operands, also where an array has not room for all their bytes.
@@ -42,7 +42,8 @@ fn keys(operands: &[u8]) -> Keys {
         source: array(operands, 2),
         source_len: script::operand(operands, 2).len(),
         suite: script::byte(operands, 3),
-        key: array(operands, 4),
+        key: array(operands, 5),
+        edition: script::byte(operands, 4),
     }
 }
 

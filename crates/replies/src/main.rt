@@ -14,8 +14,8 @@ fn main() {
 }
 
 // The commands, and how many bytes their operands have. Numbers have 8.
-fn list() -> [u8; 106] {
-    *b"install/1..1.88 remove/8 receive/..1 entry/1..1.88 fresh/ poke/21 protect/1..1k8.1 after/ message/1..1k8.1"
+fn list() -> [u8; 110] {
+    *b"install/1..11.88 remove/8 receive/..1 entry/1..11.88 fresh/ poke/21 protect/1..11k8.1 after/ message/1..11k8.1"
 }
 
 // Every line of the script is run, on a table that is empty at first.

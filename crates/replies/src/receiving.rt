@@ -18,7 +18,7 @@ fn clear(table: &mut [u8; TABLE]) -> u64 {
     0
 }
 
-// Flag, KeyId, source, suite, key, Size and start.
+// Flag, KeyId, source, suite, edition, key, Size and start.
 fn install(operands: &[u8], table: &mut [u8; TABLE]) -> u64 {
     let answer = entries::install(
         table,
@@ -26,9 +26,10 @@ fn install(operands: &[u8], table: &mut [u8; TABLE]) -> u64 {
         script::operand(operands, 1),
         script::operand(operands, 2),
         script::byte(operands, 3),
-        script::operand(operands, 4),
-        script::number(operands, 5),
+        script::byte(operands, 4),
+        script::operand(operands, 5),
         script::number(operands, 6),
+        script::number(operands, 7),
     );
     answer.reply
 }

@@ -1,4 +1,4 @@
--- Protect (01, "Replies"): 1, 7, 2, 12 in that order. A refusal changes neither the record nor the output.
+-- Protect (01, "Replies"): 1, 7, 2, 12 in that order. A refusal changes neither the record nor the output. The record has an edition (02, No. 4).
 use mathlib.Core.Path.{_≡_}
 use mathlib.Core.Bool.{Bool, _&&_, cond}
 use mathlib.Core.List.{List}
@@ -23,7 +23,7 @@ use Rattle.sender.specs.declared.Protected.{Protected}
 
 -- the key data that it holds: of the two arrays, as many bytes as their lengths say
 abbrev pub keyDataIn : Keys → KeyData
-keyDataIn d = handedIn (d .flag) (take (d .«keyid_len») (d .keyid)) (take (d .«source_len») (d .source)) (d .suite) (d .key)
+keyDataIn d = handedIn (d .flag) (take (d .«keyid_len») (d .keyid)) (take (d .«source_len») (d .source)) (d .suite) (d .edition) (d .key)
 
 -- a length that the record has no room for is unsound too
 unfoldable pub soundRecord : Keys → Bool

@@ -19,7 +19,7 @@ use format::suite::Numbered;
 use format::suite::Suite;
 use message::sealing;
 
-// Key data: the first keyid_len and source_len bytes of the two arrays count.
+// Key data: the first keyid_len and source_len bytes of the two arrays count. The edition stands last, so that a field more moved no other.
 #[repr(C)]
 pub struct Keys {
     pub flag: u8,
@@ -29,6 +29,7 @@ pub struct Keys {
     pub source_len: usize,
     pub suite: u8,
     pub key: [u8; 32],
+    pub edition: u8,
 }
 
 // The sender's record: key data, and the number of the last message.
@@ -125,6 +126,7 @@ fn is_sound(keys: Keys) -> bool
     let terms = Terms {
         flag: keys.flag,
         suite: keys.suite,
+        edition: keys.edition,
     };
     if key_data::GREATEST_KEYID < keyid_len {
         return false;
@@ -155,6 +157,7 @@ fn write_message(
     let terms = Terms {
         flag: keys.flag,
         suite: keys.suite,
+        edition: keys.edition,
     };
     sealing::seal_under(
         suite,

@@ -14,7 +14,7 @@ use Rattle.format.proofs.Soundness.{Sound, sound-facts, unsound}
 use Rattle.window.specs.Window.{View}
 use Rattle.window.specs.Entry.{undamagedEntry}
 use Rattle.window.proofs.Entries.{UndamagedEntry, entry-facts, totals-small}
-use Rattle.slots.specs.Table.{slotOf, flagOf, csOf, keyIdLengthOf, sourceLengthOf, sourceOf, keyOf, windowOf, entryOf, slotLength, slotCount, tableLength, keyIdAt, sourceLengthAt, sourceAt, keyAt, sizeAt, acceptedAt, bytesAt, keyDataOf, sourceRoom}
+use Rattle.slots.specs.Table.{slotOf, flagOf, csOf, editionOf, keyIdLengthOf, sourceLengthOf, sourceOf, keyOf, windowOf, entryOf, slotLength, slotCount, tableLength, keyIdAt, sourceLengthAt, sourceAt, keyAt, sizeAt, acceptedAt, bytesAt, keyDataOf, sourceRoom}
 use Rattle.slots.specs.Record.{undamaged}
 use Rattle.slots.proofs.Slots.{slot-byte, slot-number, slot-part, slot-length}
 
@@ -35,6 +35,7 @@ module _ (s : List ℕ) where
     keyId = take (keyIdAt + keyIdLengthOf s - keyIdAt) (drop keyIdAt s);
     source = take (sourceAt + sourceLengthOf s - sourceAt) (drop sourceAt s);
     suite = csOf s;
+    edition = editionOf s;
     key = keyOf s;
   })
       ≡ soundOf (keyDataOf s)

@@ -17,7 +17,7 @@ use Rattle.window.specs.declared.Frame.{Frame}
 use Rattle.window.specs.Entry.{Entry}
 use Rattle.window.proofs.Entries.{UndamagedEntry, totals-small}
 use Rattle.window.proofs.Undamaged.{undamaged-facts, marks-small}
-use Rattle.slots.specs.Table.{slotOf, flagOf, csOf, keyIdLengthOf, keyIdOf, sourceLengthOf, sourceOf, keyOf, keyDataOf, windowOf, entryOf, historyBytes, settled, replaced, slotLength, slotCount, tableLength, occupiedAt, flagAt, suiteAt, keyIdLengthAt, keyIdAt, keyIdRoom, sourceLengthAt, sourceAt, sourceRoom, keyAt, sizeAt, startAt, highestAt, replaysAt}
+use Rattle.slots.specs.Table.{slotOf, flagOf, csOf, editionOf, keyIdLengthOf, keyIdOf, sourceLengthOf, sourceOf, keyOf, keyDataOf, windowOf, entryOf, historyBytes, settled, replaced, slotLength, slotCount, tableLength, occupiedAt, flagAt, suiteAt, editionAt, keyIdLengthAt, keyIdAt, keyIdRoom, sourceLengthAt, sourceAt, sourceRoom, keyAt, sizeAt, startAt, highestAt, replaysAt}
 use Rattle.slots.proofs.Replacing.{slot-own}
 use Rattle.slots.proofs.Slots.{slot-length}
 use Rattle.slots.proofs.Standing.{Lies, joined, ahead, lies, number}
@@ -27,6 +27,7 @@ pub record SameKeys (s other : List ℕ) : Type 0 where
   pub first : getD other 0 0 ≡ getD s 0 0
   pub flag : flagOf other ≡ flagOf s
   pub cs : csOf other ≡ csOf s
+  pub edition : editionOf other ≡ editionOf s
   pub keyid-length : keyIdLengthOf other ≡ keyIdLengthOf s
   pub keyid : keyIdOf other ≡ keyIdOf s
   pub source-length : sourceLengthOf other ≡ sourceLengthOf s
@@ -34,7 +35,7 @@ pub record SameKeys (s other : List ℕ) : Type 0 where
   pub key : keyOf other ≡ keyOf s
 
 pub same-keydata : {s other : List ℕ} → SameKeys s other → keyDataOf other ≡ keyDataOf s
-same-keydata same = key-data-is (same .flag) (same .keyid) (same .source) (same .cs) (same .key)
+same-keydata same = key-data-is (same .flag) (same .keyid) (same .source) (same .cs) (same .edition) (same .key)
 
 -- ---- a slot
 
@@ -69,6 +70,7 @@ module _ (s : List ℕ) (e : Entry) (long : length s ≡ slotLength) where
         first = byte occupiedAt (lit≤ tt);
         flag = byte flagAt (lit≤ tt);
         cs = byte suiteAt (lit≤ tt);
+        edition = byte editionAt (lit≤ tt);
         keyid-length = keyid;
         keyid = ap (λ (x : ℕ). part keyIdAt x now) keyid ∙ piece keyIdAt (keyIdLengthOf s) (omega arith);
         source-length = source;

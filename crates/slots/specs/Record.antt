@@ -1,4 +1,5 @@
--- When a record is damaged (01, "Key lookup, window and totals"; 02, No. 2: "a larger start gives .. 7 in a record").
+-- When a record is damaged (01, "Key lookup, window and totals"; 02, No. 2: "a larger start gives .. 7 in a record",
+-- No. 4: "another edition, or 1 with a suite other than 1, gives .. 7 in a record").
 use mathlib.Core.Bool.{Bool, _&&_}
 use mathlib.Core.List.{List}
 use Prim.Native.Nat.{ℕ}

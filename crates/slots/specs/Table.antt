@@ -32,7 +32,6 @@ flagAt = 1
 abbrev pub suiteAt : ℕ
 suiteAt = 2
 
--- kept for an edition, and not read yet
 abbrev pub editionAt : ℕ
 editionAt = 3
 
@@ -99,6 +98,9 @@ flagOf s = getD s flagAt 0
 abbrev pub csOf : List ℕ → ℕ
 csOf s = getD s suiteAt 0
 
+abbrev pub editionOf : List ℕ → ℕ
+editionOf s = getD s editionAt 0
+
 abbrev pub keyIdLengthOf : List ℕ → ℕ
 keyIdLengthOf s = getD s keyIdLengthAt 0
 
@@ -115,7 +117,8 @@ abbrev pub keyOf : List ℕ → List ℕ
 keyOf s = part keyAt 32 s
 
 abbrev pub keyDataOf : List ℕ → KeyData
-keyDataOf s = record { flag = flagOf s; keyId = keyIdOf s; source = sourceOf s; suite = csOf s; key = keyOf s }
+keyDataOf s =
+    record { flag = flagOf s; keyId = keyIdOf s; source = sourceOf s; suite = csOf s; edition = editionOf s; key = keyOf s }
 
 abbrev pub frameOf : List ℕ → Frame
 frameOf s = record { size = bigEndian 8 (drop sizeAt s); start = bigEndian 8 (drop startAt s) }

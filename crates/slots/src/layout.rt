@@ -14,7 +14,6 @@ pub const FLAG: usize = 1;
 
 pub const SUITE: usize = 2;
 
-// Kept for an edition: zero in a fresh entry, and not read.
 pub const EDITION: usize = 3;
 
 pub const KEYID_LENGTH: usize = 4;

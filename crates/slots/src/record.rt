@@ -65,6 +65,7 @@ fn is_sound(slot: &[u8]) -> bool
     let terms = Terms {
         flag: slot[layout::FLAG],
         suite: slot[layout::SUITE],
+        edition: slot[layout::EDITION],
     };
     key_data::sound(
         terms,

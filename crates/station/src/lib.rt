@@ -6,15 +6,27 @@ const FLAG: u8 = 1;
 
 const SUITE: u8 = 2;
 
+const EDITION: u8 = 2;
+
 const SIZE: u64 = 4;
 
 const START: u64 = 0;
 
-// 01's entry: the key data of appendix A.2, with Size 4 and start 0.
+// 01's entry: the key data of appendix A.2, with edition 2, Size 4 and start 0.
 pub fn install(table: &mut [u8; TABLE]) {
     let source = appendix::SOURCE;
     let key = appendix::KEY;
-    entries::install(table, FLAG, b"\x30", &source, SUITE, &key, SIZE, START);
+    entries::install(
+        table,
+        FLAG,
+        b"\x30",
+        &source,
+        SUITE,
+        EDITION,
+        &key,
+        SIZE,
+        START,
+    );
 }
 
 // The line `answer=` is printed.

@@ -9,7 +9,7 @@ fn main() {
     let mut text = io::large_buffer();
     let length = io::read_full(STDIN_FILENO, &mut text);
     run(
-        b"substitute/4 turn/44 round/48 key_word/k1 forward/k8 backward/k8 encrypt/k8 first_subkey/k second_subkey/k check_value/k. check_value_32/k. derived_block/k.161 derived_next/k.161 counter/k4.1 open/k.. seal/k.161..2 opened_length/ opened_same/",
+        b"substitute/4 turn/44 round/48 key_word/k1 forward/k8 backward/k8 encrypt/k8 first_subkey/k second_subkey/k check_value/k. check_value_32/k. derived_block/k.1161 derived_next/k.1161 counter/k4.1 open/k.1. seal/k.1161..2 opened_length/ opened_same/",
         script::part(&text, 0, length),
     );
 }

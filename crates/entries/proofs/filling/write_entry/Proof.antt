@@ -26,8 +26,8 @@ returns c =
     let p = start .pre in
     let at = slotLength * a .slot in
     let room : at ≤ length (a .table .now) = omega arith in
-    let head : Written (a .table .now) at (headOf (a .terms .flag) (a .terms .suite)) _ (at + keyIdLengthAt) =
-    record { ends = rw (length-head (a .terms .flag) (a .terms .suite)); is = after-head .write-head .ensures } in
+    let head : Written (a .table .now) at (headOf (a .terms .flag) (a .terms .suite) (a .terms .edition)) _ (at + keyIdLengthAt) =
+    record { ends = rw (length-head (a .terms .flag) (a .terms .suite) (a .terms .edition)); is = after-head .write-head .ensures } in
     let keyid = and-then head room (prefixed keyIdRoom (a .keyid .now)) (at + sourceLengthAt)
     (rw (length-prefixed keyIdRoom (a .keyid .now) (p .2)) (add-assoc at keyIdLengthAt (1 + keyIdRoom))) (after-keyid .write-prefixed .ensures) in
     let source = and-then keyid room (prefixed sourceRoom (a .source .now)) (at + keyAt)

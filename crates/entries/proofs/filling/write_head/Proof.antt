@@ -11,20 +11,20 @@ use Rattle.entries.proofs.filling.write_head.Tie as tie
 
 returns : tie.Need-returns
 returns c =
-    let kept = c .before .before in
-    let suite = kept .before .before .before .before in
+    let edition = c .before .before in
+    let suite = edition .before .before .before .before .before in
     let flag = suite .before .before .before .before .before in
     let held = flag .before .before .before .before .before in
     let a = held .before .before .before .args in
     let at = a .at in
-    put-four (a .table .now) _ _ _ _ at (at + 1) (at + 2) (at + 3) (bytesOf 1 1) (bytesOf 1 (a .terms .flag)) (bytesOf 1 (a .terms .suite)) (bytesOf 1 0) (omega arith)
+    put-four (a .table .now) _ _ _ _ at (at + 1) (at + 2) (at + 3) (bytesOf 1 1) (bytesOf 1 (a .terms .flag)) (bytesOf 1 (a .terms .suite)) (bytesOf 1 (a .terms .edition)) (omega arith)
     (rw length-bytes)
     (rw length-bytes (add-assoc at 1 1))
     (rw length-bytes (add-assoc at 2 1))
     (held .write .ensures)
     (flag .write2 .ensures)
     (suite .write3 .ensures)
-    (kept .write4 .ensures)
+    (edition .write4 .ensures)
 
 pub write-head-spec : {M : Type 1} → statement M
 write-head-spec =
