@@ -5,9 +5,10 @@ use mathlib.Core.Bool.{true, false≢true}
 use Prim.Native.Nat.{ℕ, _≤_, _<_}
 use native.Mathlib.Decide.{decLt}
 use native.Mathlib.Omega.{arith}
+use borrow.Author.Tests.{ne-eqb}
 use lib.ListN.{length, getD}
 use Rattle.slots.specs.Table.{keyIdRoom}
-use Rattle.format.specs.KeyData.{known, KeyData}
+use Rattle.format.specs.KeyData.{known, goesWith, KeyData}
 use Rattle.format.specs.Suite.{suiteOf}
 use Rattle.format.proofs.KeyIds.{length-most}
 use Rattle.format.proofs.Soundness.{Sound}
@@ -20,9 +21,19 @@ suite-small cs e = by (decLt cs 256)
     by (yes h) = h
     by (no h) = absurd (false≢true (ap known (numbered-none cs (λ p. omega arith) (λ p. omega arith)) ∙ e))
 
+edition-small : (edition suite : ℕ) → goesWith edition suite ≡ true → edition < 256
+edition-small edition suite e = by (decLt edition 256)
+  where
+    by : Dec (edition < 256) → edition < 256
+    by (yes h) = h
+    by (no h) = absurd (false≢true (rw (ne-eqb edition 2 (λ p. omega arith), ne-eqb edition 1 (λ p. omega arith)) at e))
+
 module _ {k : KeyData} (sound : Sound k) where
   pub keyid-most : getD (k .keyId) 0 0 < 256 → length (k .keyId) ≤ keyIdRoom
   keyid-most b = rw (sound .keyid-length) (length-most (getD (k .keyId) 0 0) 0 b)
 
   pub suite-byte : k .suite < 256
   suite-byte = suite-small (k .suite) (sound .suite-known)
+
+  pub edition-byte : k .edition < 256
+  edition-byte = edition-small (k .edition) (k .suite) (sound .edition-goes)

@@ -14,7 +14,7 @@ use Rattle.numbers.proofs.Tests.{either}
 use Rattle.octets.proofs.BigEndian.{length-bytes}
 use Rattle.answers.specs.Answers.{refused, outputRoom, outputSmall, damaged, noSlot}
 use Rattle.answers.specs.declared.Answer.{Answer}
-use Rattle.slots.specs.Table.{slotOf, occupied, flagOf, csOf, keyIdLengthOf, keyIdOf, sourceLengthOf, sourceOf, entryOf, slotLength, slotCount, occupiedAt, keyIdAt, sourceAt}
+use Rattle.slots.specs.Table.{slotOf, occupied, flagOf, csOf, editionOf, keyIdLengthOf, keyIdOf, sourceLengthOf, sourceOf, entryOf, slotLength, slotCount, occupiedAt, keyIdAt, sourceAt}
 use Rattle.slots.specs.Record.{undamaged}
 use Rattle.listing.specs.Listing.{namedLines, termLines, movedLines, listingOf, Listed, IsListed, listed}
 use Rattle.text.proofs.Decimals.{length-decimal}
@@ -81,11 +81,17 @@ named-most i s h =
       part-within sourceAt (sourceLengthOf s) s,
     ))
 
-terms-most : (s : List ℕ) → length (termLines s) ≤ 90
+terms-most : (s : List ℕ) → length (termLines s) ≤ 120
 unfolding termLines
 terms-most s =
     simp length-append
-    (omega (arith, length-decimal (csOf s), length-decimal (entryOf s .window .frame .size), length-decimal (entryOf s .window .frame .start)))
+    (omega (
+      arith,
+      length-decimal (csOf s),
+      length-decimal (editionOf s),
+      length-decimal (entryOf s .window .frame .size),
+      length-decimal (entryOf s .window .frame .start),
+    ))
 
 moved-most : (s : List ℕ) → length (movedLines s) ≤ 160
 unfolding movedLines

@@ -12,10 +12,10 @@ use Rattle.octets.specs.Octets.{Bytes, bigEndian, bytesOf, part}
 use Rattle.octets.proofs.BigEndian.{bytes-drop, bytes-take, length-bytes, bytes-number}
 use Rattle.octets.proofs.Parts.{length-part}
 use Rattle.format.proofs.KeyIds.{length-most}
-use Rattle.slots.specs.Table.{flagOf, csOf, keyIdLengthOf, keyIdOf, sourceLengthOf, sourceOf, slotLength, keyIdLengthAt, keyIdAt, sourceAt, sizeAt, startAt, highestAt, marksAt, acceptedAt, bytesAt, keyIdRoom}
+use Rattle.slots.specs.Table.{flagOf, csOf, editionOf, keyIdLengthOf, keyIdOf, sourceLengthOf, sourceOf, slotLength, keyIdLengthAt, keyIdAt, sourceAt, sizeAt, startAt, highestAt, marksAt, acceptedAt, bytesAt, keyIdRoom}
 use Rattle.slots.specs.Record.{undamaged}
 use Rattle.text.specs.Text.{decimalLine, hexLine}
-use Rattle.listing.specs.Listing.{slotName, flagName, keyIdName, sourceName, suiteName, sizeName, startName, highestName, marksName, acceptedName, bytesName, namedLines, termLines, movedLines}
+use Rattle.listing.specs.Listing.{slotName, flagName, keyIdName, sourceName, suiteName, editionName, sizeName, startName, highestName, marksName, acceptedName, bytesName, namedLines, termLines, movedLines}
 use Rattle.slots.proofs.Damage.{undamaged-sound}
 use Rattle.octets.proofs.Places.{Written, further}
 
@@ -61,13 +61,13 @@ module _ (s : List ℕ) (long : length s ≡ slotLength) (b : Bytes s) where
       rw (highest-printed, marks-printed, ← a, ← b) (further (further (further highest h marks) h third) h fourth)
 
   -- the other lines that an install settled
-  pub terms-written : {o₁ o₂ o₃ : List ℕ} {e₁ e₂ e₃ size start : ℕ} (l : List ℕ) (at : ℕ) → at ≤ length l
-      → Written l at (decimalLine suiteName (csOf s)) o₁ e₁
-      → size ≡ bigEndian 8 (drop sizeAt s) → Written o₁ e₁ (decimalLine sizeName size) o₂ e₂
-      → start ≡ bigEndian 8 (drop startAt s) → Written o₂ e₂ (decimalLine startName start) o₃ e₃
-      → Written l at (termLines s) o₃ e₃
+  pub terms-written : {o₁ o₂ o₃ o₄ : List ℕ} {e₁ e₂ e₃ e₄ size start : ℕ} (l : List ℕ) (at : ℕ) → at ≤ length l
+      → Written l at (decimalLine suiteName (csOf s)) o₁ e₁ → Written o₁ e₁ (decimalLine editionName (editionOf s)) o₂ e₂
+      → size ≡ bigEndian 8 (drop sizeAt s) → Written o₂ e₂ (decimalLine sizeName size) o₃ e₃
+      → start ≡ bigEndian 8 (drop startAt s) → Written o₃ e₃ (decimalLine startName start) o₄ e₄
+      → Written l at (termLines s) o₄ e₄
   unfolding termLines
-  terms-written l at h suite z size t start = rw (← z, ← t) (further (further suite h size) h start)
+  terms-written l at h suite edition z size t start = rw (← z, ← t) (further (further (further suite h edition) h size) h start)
 
 -- the lines that say which entry it is
 pub named-written : {o₁ o₂ o₃ o₄ : List ℕ} {e₁ e₂ e₃ e₄ : ℕ} (l : List ℕ) (i : ℕ) (s : List ℕ)

@@ -9,7 +9,7 @@ use Rattle.slots.proofs.record.is_sound.Statement.{statement}
 use Rattle.slots.proofs.record.is_sound.Tie as tie
 
 returns-2 : tie.Need-returns-2
-returns-2 c = c .sound .ensures ∙ sound-lent (c .before .before .before .before .before .before .before .before .before .before .args .slot .now)
+returns-2 c = c .sound .ensures ∙ sound-lent (c .before .before .before .before .before .before .before .before .before .before .before .args .slot .now)
 
 pub is-sound-spec : {M : Type 1} → statement M
 is-sound-spec =
@@ -22,8 +22,8 @@ is-sound-spec =
     (λ c. omega (arith, c .shared-slice-known3 .given sourceLengthAt))
     (λ c. omega (arith, c .shared-slice-known3 .given sourceLengthAt))
     (λ c. long-source (c .before .before .before .before .args .slot .now) (search needs) (omega arith))
-    (λ c. search needs) (λ c. search needs) (λ c. search needs) (λ c. search needs)
-    (λ c. omega (arith, c .before .before .before .before .shared-slice-known2 .given keyIdLengthAt))
+    (λ c. search needs) (λ c. search needs) (λ c. search needs) (λ c. search needs) (λ c. search needs)
+    (λ c. omega (arith, c .before .before .before .before .before .shared-slice-known2 .given keyIdLengthAt))
     (λ c. search needs) (λ c. search needs) (λ c. search needs) (λ c. search needs) (λ c. search needs) (λ c. search needs)
     (λ c κs. search needs)
     returns-2)
