@@ -55,8 +55,7 @@ module _ {k : KeyData} {i : ℕ} {t : List ℕ} (held : Held k i t) (m source : 
               read,
               ← suite,
               ap (λ (x : KeyData). x .suite) (held .keys),
-              ap (λ (x : KeyData). x .key) (held .keys),
-              ap (λ (x : KeyData). x .source) (held .keys),
+              ap (λ (x : KeyData). right h x m) (held .keys),
               eq-eqb i i refl,
             )
             (both (eqb (k .suite) (numberOf (h .suite))) (right h k m))

@@ -93,7 +93,7 @@ pub own-leads : (t : List ℕ) (i flag : ℕ) (keyId source : List ℕ) → lead
 unfolding leadsTo
 own-leads t i flag keyId source l =
     let k = keyDataOf (slotOf t i) in
-    let other : KeyData = record { flag = flag; keyId = keyId; source = source; suite = 0; key = [] } in
+    let other : KeyData = record { flag = flag; keyId = keyId; source = source; suite = 0; edition = 0; key = [] } in
     let hit = leads-matches t i flag keyId source l in
     let n = match-names k flag keyId source (slotOf t i) refl hit in
     found-too (λ j. matches flag keyId source (slotOf t j)) (λ j. isNamed k (slotOf t j)) i l (match-named k flag keyId source (slotOf t i) n hit)
@@ -113,7 +113,7 @@ module _ {k : KeyData} {i : ℕ} {t : List ℕ} (held : Held k i t) where
     pub leads-here : Names k flag keyId source → leadsTo t flag keyId source ≡ At i
     unfolding leadsTo
     leads-here n =
-        let other : KeyData = record { flag = flag; keyId = keyId; source = source; suite = 0; key = [] } in
+        let other : KeyData = record { flag = flag; keyId = keyId; source = source; suite = 0; edition = 0; key = [] } in
         found-too (λ j. isNamed k (slotOf t j)) (λ j. matches flag keyId source (slotOf t j)) i (held .leads)
         (match-named other (k .flag) (k .keyId) (k .source) (slotOf t i) (names-back {k = k} {other = other} n) held-matches)
         (λ j l. match-named k flag keyId source (slotOf t j) n)

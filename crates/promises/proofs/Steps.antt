@@ -155,7 +155,7 @@ module _ {b : Beginning} {i : ℕ} {t : List ℕ} {past : List Told} (now : Stan
             writes =
                 λ y e g other.
                 let same : h ≡ g = cc in
-                rw (ap (λ (x : KeyData). x .key) (held .keys), ap (λ (x : KeyData). x .source) (held .keys), same);
+                rw same (ap (λ (x : KeyData). put out 0 (opened g x m)) (held .keys));
           };
           replies = refl;
         }
@@ -186,7 +186,7 @@ module _ {b : Beginning} {i : ℕ} {t : List ℕ} {past : List Told} (now : Stan
         let keys = held .keys in
         by-tests (eqb (k .suite) (numberOf (h .suite))) (isBelow b past (h .seqnum)) (isUsed b past (h .seqnum)) (right h k m)
         (rw (ap (λ (x : KeyData). x .suite) keys)) (verdict-agrees (now .agrees) (h .seqnum))
-        (rw (ap (λ (x : KeyData). x .key) keys, ap (λ (x : KeyData). x .source) keys))
+        (ap (λ (x : KeyData). right h x m) keys)
 
   -- ---- any arrival
 

@@ -1,4 +1,4 @@
--- Each reply's own case (01, "Replies"; 02, No. 1 and 2), and the rule that joins them: the first that fits, in the listed order, is given; where none fits, 0.
+-- Each reply's own case (01, "Replies"; 02, No. 1, 2 and 4), and the rule that joins them: the first that fits, in the listed order, is given; where none fits, 0.
 use mathlib.Core.Path.{_≡_}
 use mathlib.Core.Bool.{Bool, true, false, cond, not, _||_, _&&_}
 use mathlib.Core.List.{List, [], _∷_}
@@ -121,7 +121,7 @@ receiveReplies t m source out =
     ∷ reply 5 (ltb (length m) (fixedBytes + lengthOf (keyIdIn m) + icvIn (suiteOf (csIn m))))
     -- no slot matches
     ∷ reply 6 (isNothing (ledTo t m source))
-    -- record damaged
+    -- record damaged; "another edition, or 1 with a suite other than 1, gives .. 7 in a record" (02, No. 4)
     ∷ reply 7 (not (undamaged s))
     -- CS not the entry's
     ∷ reply 8 (not (eqb (csOf s) (csIn m)))
@@ -137,7 +137,8 @@ receiveReplies t m source out =
 
 unfoldable pub installReplies : List ℕ → KeyData → Frame → List Reply
 installReplies t k f =
-    -- key data unsound, Size with it; "a larger start gives 13 at install" (02, No. 2)
+    -- key data unsound, Size with it; "a larger start gives 13 at install" (02, No. 2), and so does "another edition, or 1 with a suite other than 1"
+    -- (No. 4)
     reply 13 (not (soundOf k && soundFrame f))
     -- an occupied slot has the same flag and KeyId and, for flag 1, source
     ∷ reply 14 (not (isNothing (leadsTo t (k .flag) (k .keyId) (k .source))))
