@@ -8,10 +8,11 @@ use lib.ListN.{length, take}
 use Rattle.format.specs.Header.{greatestMessage, fixedBytes}
 use Rattle.octets.specs.Octets.{put}
 use Rattle.answers.specs.Answers.{refused, outputRoom, outputSmall, badLength, damaged, noNumber}
-use Rattle.format.specs.KeyData.{KeyData, handedIn, soundOf}
+use Rattle.format.specs.KeyData.{KeyData, keyed, soundOf}
 use Rattle.format.specs.Suite.{suiteOf, icvLengthOf}
 use Rattle.message.specs.Sealing.{sealed}
 use Rattle.answers.specs.declared.Answer.{Answer}
+use Rattle.format.specs.declared.key_data.Terms.{Terms}
 use Rattle.format.specs.declared.suite.Numbered.{Numbered}
 use Rattle.format.specs.declared.suite.Numbered.the-variants.{Known, Unknown}
 use Rattle.format.specs.declared.suite.Suite.{Suite}
@@ -21,9 +22,13 @@ use Rattle.sender.specs.declared.Protected.{Protected}
 
 -- ---- the record
 
+-- the numbers of its key data
+abbrev pub termsIn : Keys → Terms
+termsIn d = record { flag = d .flag; suite = d .suite; edition = d .edition }
+
 -- the key data that it holds: of the two arrays, as many bytes as their lengths say
 abbrev pub keyDataIn : Keys → KeyData
-keyDataIn d = handedIn (d .flag) (take (d .«keyid_len») (d .keyid)) (take (d .«source_len») (d .source)) (d .suite) (d .edition) (d .key)
+keyDataIn d = keyed (termsIn d) (take (d .«keyid_len») (d .keyid)) (take (d .«source_len») (d .source)) (d .key)
 
 -- a length that the record has no room for is unsound too
 unfoldable pub soundRecord : Keys → Bool

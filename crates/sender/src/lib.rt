@@ -10,7 +10,7 @@ ghost use Rattle.answers.specs.Answers.{outputRoom};
 ghost use Rattle.octets.specs.Octets.{put};
 ghost use Rattle.magma.specs.Magma.{keyWords};
 ghost use Rattle.format.specs.Suite.{icvLengthOf};
-ghost use Rattle.sender.specs.Protect.{keyDataIn, soundRecord, withNumber, messageOf, refusedAt, Protects};
+ghost use Rattle.sender.specs.Protect.{termsIn, keyDataIn, soundRecord, withNumber, messageOf, refusedAt, Protects};
 use answers::Answer;
 use format::header;
 use format::key_data;
@@ -102,6 +102,17 @@ fn base_of(keys: Keys) -> [u32; 8]
     modes::key_words(&bytes)
 }
 
+// The numbers of a record's key data.
+fn terms_of(keys: Keys) -> Terms
+    ensures { λ r. ⌜ r ≡ termsIn keys ⌝ }
+{
+    Terms {
+        flag: keys.flag,
+        suite: keys.suite,
+        edition: keys.edition,
+    }
+}
+
 // Whether a record is undamaged: its key data is sound, and its number at most 2^48 - 1.
 fn is_undamaged(sender: Sender) -> bool
     ensures { λ r. ⌜ r ≡ (soundRecord (sender .keys) && ltb (sender .current) (2 ^ 48)) ⌝ }
@@ -123,17 +134,13 @@ fn is_sound(keys: Keys) -> bool
     let key = keys.key;
     let keyid_len = keys.keyid_len;
     let source_len = keys.source_len;
-    let terms = Terms {
-        flag: keys.flag,
-        suite: keys.suite,
-        edition: keys.edition,
-    };
     if key_data::GREATEST_KEYID < keyid_len {
         return false;
     }
     if key_data::GREATEST_SOURCE < source_len {
         return false;
     }
+    let terms = terms_of(keys);
     key_data::sound(terms, &keyid[..keyid_len], &source[..source_len], &key)
 }
 
@@ -154,11 +161,7 @@ fn write_message(
     let source = keys.source;
     let keyid_len = keys.keyid_len;
     let source_len = keys.source_len;
-    let terms = Terms {
-        flag: keys.flag,
-        suite: keys.suite,
-        edition: keys.edition,
-    };
+    let terms = terms_of(keys);
     sealing::seal_under(
         suite,
         terms,

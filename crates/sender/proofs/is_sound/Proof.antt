@@ -9,14 +9,16 @@ use Rattle.sender.proofs.is_sound.Statement.{statement}
 use Rattle.sender.proofs.is_sound.Tie as tie
 
 -- the prefixes that are lent lie within their arrays
-keyid-fits : (c : tie.Else2) → let d = c .before .before .before .before .before .args .keys in d .«keyid_len» ≤ length (d .keyid)
-keyid-fits c = let l : length (c .before .before .before .before .before .args .keys .keyid) ≡ 128 = search needs in omega arith
+keyid-fits : (c : tie.After-terms-of) → let d = c .before .before .before .before .before .before .args .keys in d .«keyid_len» ≤ length (d .keyid)
+keyid-fits c = let l : length (c .before .before .before .before .before .before .args .keys .keyid) ≡ 128 = search needs in omega arith
 
-source-fits : (c : tie.Else2) → let d = c .before .before .before .before .before .args .keys in d .«source_len» ≤ length (d .source)
-source-fits c = let l : length (c .before .before .before .before .before .args .keys .source) ≡ 32 = search needs in omega arith
+source-fits : (c : tie.After-terms-of) → let d = c .before .before .before .before .before .before .args .keys in d .«source_len» ≤ length (d .source)
+source-fits c = let l : length (c .before .before .before .before .before .before .args .keys .source) ≡ 32 = search needs in omega arith
 
 returns-3 : tie.Need-returns-3
-returns-3 c = c .sound .ensures ∙ keys-decide _ (omega arith) (omega arith)
+returns-3 c =
+    let terms = c .before .before .before .before in
+    (rw (terms .terms-of .ensures) at (c .sound .ensures)) ∙ keys-decide (terms .before .before .before .before .before .before .args .keys) (omega arith) (omega arith)
 
 pub is-sound-spec : {M : Type 1} → statement M
 is-sound-spec =
@@ -24,6 +26,7 @@ is-sound-spec =
     (tie.spec
     (λ c. record-long-keyid _ (c .if1 .taken))
     (λ c. record-long-source _ (omega arith) (c .if2 .taken))
+    (λ c κs. search needs)
     keyid-fits
     (λ c. simp length-take (omega (arith, keyid-fits (c .before))))
     (λ c. source-fits (c .before))
