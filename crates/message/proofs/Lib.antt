@@ -1,4 +1,5 @@
 pub mod Determined
+pub mod Editions
 pub mod Fronts
 pub mod Opening
 pub mod Payloads
