@@ -20,37 +20,47 @@
 #include "report.h"
 #endif
 
-/* Appendix A of R 1323565.1.029-2019: what A.1 and A.2 share, and their numbers */
+/* Appendix A of R 1323565.1.029-2019: what A.1 and A.2 share, and what they do not; and A.1 as an old controller would send it */
 static const uint8_t key_bytes[32] = {
     0x56, 0x50, 0x94, 0x27, 0x15, 0x32, 0x49, 0x65, 0x34, 0x98, 0x52, 0x46, 0x59, 0x32, 0x46, 0x53,
     0x04, 0x53, 0x29, 0x45, 0x34, 0x65, 0x93, 0x84, 0x50, 0x73, 0x24, 0x95, 0x76, 0x35, 0x12, 0x90,
 };
 static const uint8_t source[12] = "020518000001";
 static const char payload_a[] = "Hi! This is test for CRISP messages\n\x03";
-static const uint64_t numbers[] = {0, 0x0b76e6736001, 0x0b76e66ea001};
+static const struct kind {
+    uint8_t suite, edition;
+    uint64_t number;
+} a_1 = {1, 2, 0x0b76e6736001}, a_2 = {2, 2, 0x0b76e66ea001}, old_a_1 = {1, 1, 0x0b76e6736001};
 
 static uint8_t table[CRISP_TABLE], saved[CRISP_TABLE], data[2048], out[2048], message[2048];
 static volatile uint64_t sink;
 
 static uint32_t key[8];
 
-static struct crisp_sender sender_of(int suite)
+static struct crisp_sender sender_of(const struct kind *k)
 {
-    struct crisp_sender s = {.flag = 1, .keyid = {0x30}, .keyid_len = 1, .source_len = 12, .suite = (uint8_t)suite, .current = numbers[suite] - 1};
+    struct crisp_sender s = {.flag = 1, .keyid = {0x30}, .keyid_len = 1, .source_len = 12, .suite = k->suite, .edition = k->edition,
+                             .current = k->number - 1};
     memcpy(s.source, source, 12);
     memcpy(s.key, key_bytes, 32);
     return s;
 }
 
 /* the message of `length` payload bytes is sent, n times, with the same number */
-static int protects(int suite, size_t length, uint64_t n)
+static int protects(const struct kind *k, size_t length, uint64_t n)
 {
-    struct crisp_sender s = sender_of(suite);
+    struct crisp_sender s = sender_of(k);
     while (n--) {
-        s.current = numbers[suite] - 1;
+        s.current = k->number - 1;
         if (crisp_protect(&s, data, length, out, sizeof out).reply) return 1;
     }
     return 0;
+}
+
+/* the entry of that kind */
+static struct crisp_answer install(const struct kind *k, uint64_t size, uint64_t start)
+{
+    return crisp_install(table, 1, (const uint8_t *)"\x30", 1, source, 12, k->suite, k->edition, key_bytes, 32, size, start);
 }
 
 /* an entry is installed in an empty table, n times */
@@ -58,21 +68,20 @@ static int installs(uint64_t n)
 {
     while (n--) {
         table[0] = 0;
-        if (crisp_install(table, 1, (const uint8_t *)"\x30", 1, source, 12, 1, key_bytes, 32, 256, numbers[1]).reply) return 1;
+        if (install(&a_1, 256, a_1.number).reply) return 1;
     }
     return 0;
 }
 
 /* the entry stands in slot `slot`, behind others, with that start; the window is put back before each arrival */
-static int arrives(int suite, size_t length, int slot, uint64_t start, int damage, uint64_t n, uint64_t reply)
+static int arrives(const struct kind *k, size_t length, int slot, uint64_t start, int damage, uint64_t n, uint64_t reply)
 {
-    for (int i = 0; i <= slot; i++) {
+    for (int i = 0; i < slot; i++) {
         uint8_t keyid[2] = {0x81, (uint8_t)i};
-        struct crisp_answer a = i < slot ? crisp_install(table, 1, keyid, 2, source, 12, (uint8_t)suite, key_bytes, 32, 256, 0)
-                                         : crisp_install(table, 1, (const uint8_t *)"\x30", 1, source, 12, (uint8_t)suite, key_bytes, 32, 256, start);
-        if (a.reply) return 1;
+        if (crisp_install(table, 1, keyid, 2, source, 12, k->suite, k->edition, key_bytes, 32, 256, 0).reply) return 1;
     }
-    struct crisp_sender s = sender_of(suite);
+    if (install(k, 256, start).reply) return 1;
+    struct crisp_sender s = sender_of(k);
     struct crisp_answer a = crisp_protect(&s, data, length, message, sizeof message);
     if (a.reply) return 1;
     if (damage >= 0) message[damage] ^= 1;
@@ -85,7 +94,10 @@ static int arrives(int suite, size_t length, int slot, uint64_t start, int damag
     return 0;
 }
 
-static int receives(int suite, size_t length, int slot, int damage, uint64_t n, uint64_t reply) { return arrives(suite, length, slot, 0, damage, n, reply); }
+static int receives(const struct kind *k, size_t length, int slot, int damage, uint64_t n, uint64_t reply)
+{
+    return arrives(k, length, slot, 0, damage, n, reply);
+}
 
 /* ---- the operations */
 
@@ -125,16 +137,16 @@ static int counter_2048(uint64_t n)
     return 0;
 }
 
-static int keys_suite_1(uint64_t n)
+static int derives(uint8_t edition, uint64_t n)
 {
     uint64_t x = 0;
     while (n--) {
 #ifdef PLAIN
         uint32_t check[8], cipher[8];
-        ref_keys(key, 1, source, 12, n, check, cipher);
+        ref_keys(key, 1, edition, source, 12, n, check, cipher);
         x ^= check[0] ^ cipher[7];
 #else
-        struct cipher_keys k = cipher_keys_1(key, source, n);
+        struct cipher_keys k = cipher_keys_1(key, edition, source, n);
         x ^= k.check[0] ^ k.cipher[7];
 #endif
     }
@@ -142,13 +154,16 @@ static int keys_suite_1(uint64_t n)
     return 0;
 }
 
+static int keys_suite_1(uint64_t n) { return derives(2, n); }
+static int keys_edition_1(uint64_t n) { return derives(1, n); }
+
 static int keys_suite_2(uint64_t n)
 {
     uint64_t x = 0;
     while (n--) {
 #ifdef PLAIN
         uint32_t check[8];
-        ref_keys(key, 2, source, 12, n, check, NULL);
+        ref_keys(key, 2, 2, source, 12, n, check, NULL);
         x ^= check[7];
 #else
         struct cipher_key k = cipher_key_2(key, source, n);
@@ -173,14 +188,14 @@ static void put(const void *bytes, size_t n)
 static int capture_begins(void)
 {
     static const uint8_t head[24] = {0xd4, 0xc3, 0xb2, 0xa1, 2, 0, 4, 0, [20] = 147}, entry[17] = {[8] = 64, [12] = 64, [16] = 12};
-    struct crisp_sender s = sender_of(2);
+    struct crisp_sender s = sender_of(&a_2);
     put(head, sizeof head);
     while (captured + 80 <= sizeof capture) {
         struct crisp_answer a = crisp_protect(&s, data, 37, message, sizeof message);
         if (a.reply || a.length != 51) return 1;
         put(entry, sizeof entry), put(source, 12), put(message, 51);
     }
-    struct crisp_answer a = crisp_install(table, 1, (const uint8_t *)"\x30", 1, source, 12, 2, key_bytes, 32, 4, 0);
+    struct crisp_answer a = install(&a_2, 4, 0);
     memcpy(saved, table, sizeof table);
     return a.reply != 0;
 }
@@ -223,21 +238,23 @@ static int walk_capture(uint64_t n)
     return 0;
 }
 
-static int receive_a_1(uint64_t n) { return receives(1, 37, 0, -1, n, 0); }
-static int receive_a_2(uint64_t n) { return receives(2, 37, 0, -1, n, 0); }
-static int receive_2048_1(uint64_t n) { return receives(1, 2034, 0, -1, n, 0); }
-static int receive_2048_2(uint64_t n) { return receives(2, 2034, 0, -1, n, 0); }
-static int receive_slot_15(uint64_t n) { return receives(1, 37, 15, -1, n, 0); }
-static int refuse_version(uint64_t n) { return receives(1, 37, 0, 1, n, 3); }
-static int refuse_no_entry(uint64_t n) { return receives(1, 37, 0, 3, n, 6); }
-static int refuse_no_entry_16(uint64_t n) { return receives(1, 37, 15, 3, n, 6); }
-static int refuse_icv(uint64_t n) { return receives(1, 37, 0, 50, n, 11); }
-static int receive_at_start(uint64_t n) { return arrives(1, 37, 0, numbers[1], -1, n, 0); }
-static int refuse_below_start(uint64_t n) { return arrives(1, 37, 0, numbers[1] + 1, -1, n, 9); }
-static int protect_a_1(uint64_t n) { return protects(1, 37, n); }
-static int protect_a_2(uint64_t n) { return protects(2, 37, n); }
-static int protect_2048_1(uint64_t n) { return protects(1, 2034, n); }
-static int protect_2048_2(uint64_t n) { return protects(2, 2034, n); }
+static int receive_a_1(uint64_t n) { return receives(&a_1, 37, 0, -1, n, 0); }
+static int receive_old(uint64_t n) { return receives(&old_a_1, 37, 0, -1, n, 0); }
+static int receive_a_2(uint64_t n) { return receives(&a_2, 37, 0, -1, n, 0); }
+static int receive_2048_1(uint64_t n) { return receives(&a_1, 2034, 0, -1, n, 0); }
+static int receive_2048_2(uint64_t n) { return receives(&a_2, 2034, 0, -1, n, 0); }
+static int receive_slot_15(uint64_t n) { return receives(&a_1, 37, 15, -1, n, 0); }
+static int refuse_version(uint64_t n) { return receives(&a_1, 37, 0, 1, n, 3); }
+static int refuse_no_entry(uint64_t n) { return receives(&a_1, 37, 0, 3, n, 6); }
+static int refuse_no_entry_16(uint64_t n) { return receives(&a_1, 37, 15, 3, n, 6); }
+static int refuse_icv(uint64_t n) { return receives(&a_1, 37, 0, 50, n, 11); }
+static int receive_at_start(uint64_t n) { return arrives(&a_1, 37, 0, a_1.number, -1, n, 0); }
+static int refuse_below_start(uint64_t n) { return arrives(&a_1, 37, 0, a_1.number + 1, -1, n, 9); }
+static int protect_a_1(uint64_t n) { return protects(&a_1, 37, n); }
+static int protect_old(uint64_t n) { return protects(&old_a_1, 37, n); }
+static int protect_a_2(uint64_t n) { return protects(&a_2, 37, n); }
+static int protect_2048_1(uint64_t n) { return protects(&a_1, 2034, n); }
+static int protect_2048_2(uint64_t n) { return protects(&a_2, 2034, n); }
 static int forget(uint64_t n)
 {
     while (n--) crisp_forget();
@@ -254,6 +271,7 @@ static const struct {
     {"refuse-no-entry-16-slots", refuse_no_entry_16}, {"refuse-icv", refuse_icv}, {"install", installs},
     {"receive-A.1-at-start", receive_at_start}, {"refuse-below-start", refuse_below_start}, {"protect-A.1", protect_a_1}, {"protect-A.2", protect_a_2},
     {"protect-2048-suite-1", protect_2048_1}, {"protect-2048-suite-2", protect_2048_2}, {"forget", forget},
+    {"keys-suite-1-edition-1", keys_edition_1}, {"receive-A.1-edition-1", receive_old}, {"protect-A.1-edition-1", protect_old},
     {"capture-report", report_capture}, {"capture-loop", loop_capture}, {"capture-records", walk_capture},
 };
 

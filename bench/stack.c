@@ -52,12 +52,12 @@ static size_t reserved(void (*f)(void))
 static uint8_t table[CRISP_TABLE], before[CRISP_TABLE], key[32], source[32], keyid[128] = {0xff}, data[1907], out[2048], message[2048];
 static struct crisp_sender sender;
 static struct crisp_answer answer;
-static int suite;
+static uint8_t suite, edition;
 
 static void install(void)
 {
     memset(table, 0, sizeof table);
-    answer = crisp_install(table, 1, keyid, 128, source, 32, (uint8_t)suite, key, 32, 256, 0);
+    answer = crisp_install(table, 1, keyid, 128, source, 32, suite, edition, key, 32, 256, 0);
 }
 static void receive(void)
 {
@@ -196,22 +196,31 @@ static void gauge_counter(void)
     line("  all, of any length", deepest, deepest > frame + own);
 }
 
+/* the calls with key data of that suite and that edition */
+static void gauge_calls(uint8_t of_suite, uint8_t of_edition, const char *what)
+{
+    static const struct { const char *name; void (*call)(void); size_t limit; } calls[] = {
+        {"install", install, CRISP_STACK - PUSHED}, {"protect", protect, 1024}, {"receive", receive, 1024}, {"listing", listing, CRISP_STACK - PUSHED},
+        {"remove", removal, CRISP_STACK - PUSHED}, {"report", report, 4096 - PUSHED},
+    };
+    suite = of_suite, edition = of_edition;
+    sender = (struct crisp_sender){.flag = 1, .keyid = {0xff}, .keyid_len = 128, .source_len = 32, .suite = suite, .edition = edition};
+    install();
+    memcpy(before, table, sizeof table);
+    for (size_t i = 0; i < sizeof calls / sizeof *calls; i++) {
+        char name[32];
+        snprintf(name, sizeof name, "%s, %s", calls[i].name, what), gauge_within(calls[i].limit, name, calls[i].call);
+    }
+}
+
 /* with a word more, counter mode too */
 int main(int argc, char **argv)
 {
     (void)argv;
     printf("%-24s %6s\n", "deepest stack, bytes", "");
-    for (suite = 1; suite <= 2; suite++) {
-        char name[32];
-        sender = (struct crisp_sender){.flag = 1, .keyid = {0xff}, .keyid_len = 128, .source_len = 32, .suite = (uint8_t)suite};
-        snprintf(name, sizeof name, "install, suite %d", suite), gauge(name, install);
-        memcpy(before, table, sizeof table);
-        snprintf(name, sizeof name, "protect, suite %d", suite), gauge_within(1024, name, protect);
-        snprintf(name, sizeof name, "receive, suite %d", suite), gauge_within(1024, name, receive);
-        snprintf(name, sizeof name, "listing, suite %d", suite), gauge(name, listing);
-        snprintf(name, sizeof name, "remove, suite %d", suite), gauge(name, removal);
-        snprintf(name, sizeof name, "report, suite %d", suite), gauge_within(4096 - PUSHED, name, report);
-    }
+    gauge_calls(1, 2, "suite 1");
+    gauge_calls(2, 2, "suite 2");
+    gauge_calls(1, 1, "edition 1");
     gauge("capture order", order);
     gauge("capture record", record);
     if (argc > 1) gauge_counter();

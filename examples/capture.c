@@ -23,7 +23,7 @@ static void say(size_t number, uint64_t reply, const uint8_t *payload, size_t le
 
 int main(void)
 {
-    if (crisp_install(table, 1, keyid, sizeof keyid, source, sizeof source - 1, 2, key, sizeof key, 4, 0).reply != CRISP_DONE) return 1;
+    if (crisp_install(table, 1, keyid, sizeof keyid, source, sizeof source - 1, 2, 2, key, sizeof key, 4, 0).reply != CRISP_DONE) return 1;
     size_t length = fread(file, 1, sizeof file, stdin), number = 0;
     uint64_t order = crisp_capture_order(file, length);
     if (order == CRISP_BAD_CAPTURE) return printf("answer=%d\n", CRISP_BAD_CAPTURE) < 0;

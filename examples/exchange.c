@@ -53,12 +53,12 @@ int main(void)
 {
     static const char *const readings[] = {"17.3 GJ", "17.9 GJ", "18.4 GJ"};
     static struct packet packets[3], forged;
-    struct crisp_sender sender = {.flag = 1, .keyid_len = sizeof keyid, .source_len = sizeof source - 1, .suite = 1};
+    struct crisp_sender sender = {.flag = 1, .keyid_len = sizeof keyid, .source_len = sizeof source - 1, .suite = 1, .edition = 2};
     memcpy(sender.keyid, keyid, sizeof keyid);
     memcpy(sender.source, source, sizeof source - 1);
     memcpy(sender.key, key, sizeof key);
 
-    struct crisp_answer a = crisp_install(table, 1, keyid, sizeof keyid, source, sizeof source - 1, 1, key, sizeof key, 64, 0);
+    struct crisp_answer a = crisp_install(table, 1, keyid, sizeof keyid, source, sizeof source - 1, 1, 2, key, sizeof key, 64, 0);
     if (a.reply != CRISP_DONE) return 1;
     size_t slot = a.slot;
 
@@ -74,7 +74,7 @@ int main(void)
     if (crisp_remove(table, slot).reply != CRISP_DONE) return 1;
 
     /* the key has a past: it starts behind all that was accepted, and with start 0 all three would pass once more */
-    a = crisp_install(replacement, 1, keyid, sizeof keyid, source, sizeof source - 1, 1, key, sizeof key, 64, next);
+    a = crisp_install(replacement, 1, keyid, sizeof keyid, source, sizeof source - 1, 1, 2, key, sizeof key, 64, next);
     if (a.reply != CRISP_DONE) return 1;
     for (int i = 0; i < 3; i++)
         if (arrives(replacement, &packets[i]) != CRISP_BELOW_FLOOR) return 1;

@@ -7,7 +7,7 @@
  *
  * Two rules: the sender saves its record before the message leaves, so no number is used twice; the gateway saves its table and the line that it is
  * about to book in one file, and books that line again when it comes back, so each reading is booked once. The files hold keys: only their owner can
- * read them. Build: cc kept.c $(pkg-config --cflags --libs crisp) */
+ * read them. A folder that was kept under layout 1 is taken over. Build: cc kept.c $(pkg-config --cflags --libs crisp) */
 #define _POSIX_C_SOURCE 200809L
 #include "crisp.h"
 #include <errno.h>
@@ -78,14 +78,30 @@ static void save(const char *name, const void *bytes, size_t n)
     if (renameat(folder, fresh, folder, name) || fsync(folder)) failed(name);
 }
 
+/* Layout 1 had no editions, and all that was kept under it followed the rule of edition 2. Layout 2 is in the file from its next save on. */
+static void take_over(void)
+{
+    if (memcmp(sender.mark, "crisp record 1", 15) == 0) {
+        memcpy(sender.mark, "crisp record 2", 15);
+        sender.record.edition = 2;
+    }
+    if (memcmp(gateway.mark, "crisp table 1", 14) == 0) {
+        memcpy(gateway.mark, "crisp table 2", 14);
+        for (uint8_t *slot = gateway.table; slot < gateway.table + CRISP_TABLE; slot += CRISP_TABLE / CRISP_SLOTS)
+            if (slot[0] != 0) slot[3] = 2;
+    }
+}
+
 /* A file that is missing, shorter, longer or of another layout is never taken for a fresh start. */
 static void restore(const char *name, void *bytes, size_t n, const char *mark)
 {
     char more;
     int file = openat(folder, name, O_RDONLY | O_CLOEXEC);
     if (file < 0) failed(name);
-    if (read(file, bytes, n) != (ssize_t)n || read(file, &more, 1) != 0 || memcmp(bytes, mark, 16) != 0) stop(name, "not as it was kept");
+    int whole = read(file, bytes, n) == (ssize_t)n && read(file, &more, 1) == 0;
     close(file);
+    take_over();
+    if (!whole || memcmp(bytes, mark, 16) != 0) stop(name, "not as it was kept");
 }
 
 static void make(void)
@@ -101,7 +117,8 @@ static void make(void)
     memcpy(r->keyid, keyid, r->keyid_len = sizeof keyid);
     memcpy(r->source, source, r->source_len = sizeof source);
     r->suite = 1;
-    struct crisp_answer a = crisp_install(gateway.table, 1, keyid, sizeof keyid, source, sizeof source, 1, r->key, sizeof r->key, 64, 0);
+    r->edition = 2;
+    struct crisp_answer a = crisp_install(gateway.table, 1, keyid, sizeof keyid, source, sizeof source, 1, 2, r->key, sizeof r->key, 64, 0);
     if (a.reply != CRISP_DONE) stop("install", "refused");
     memcpy(gateway.mark, gateway_mark, 16);
     memcpy(sender.mark, sender_mark, 16);

@@ -29,18 +29,23 @@ extern "C" {
 
 /* The interface's version, 100 times the major one plus the minor one: the first is raised where a call of before has to be written anew or means
  * something else, the second where something was added. */
-#define CRISP_VERSION 200
+#define CRISP_VERSION 300
 
-/* The version of the two layouts, the table's and the record's, raised where either moves. Keep it beside a saved table or record: another
- * layout's bytes are read as something else. A table that version 1 of the interface saved is read as it was, with start 0 in every entry; back to
- * version 1 a table must not go once an entry of it has another start, which that version does not look at. */
-#define CRISP_LAYOUT 1
+/* The version of the two layouts, the table's and the record's, raised where a place moves or gets another meaning. Keep it beside a saved table or
+ * record: another layout's bytes are read as something else.
+ *
+ * Versions 1 and 2 of the interface saved layout 1. Its places are the same, but where layout 2 has an edition it has 0, so each entry and each
+ * record of it is refused with 7. All of them followed the rule of edition 2. A table of layout 1 becomes one of layout 2 by putting 2 into byte 3 of
+ * each slot whose byte 0 is not 0 (a slot has CRISP_TABLE / CRISP_SLOTS bytes), and a record by putting 2 into its edition; examples/kept.c among the
+ * sources does so. What version 1 saved has start 0 in every entry. Back to version 1 or 2 a table or a record must not go once there is edition 1 in
+ * it, which they read as 2; nor to version 1 a table once an entry of it has another start, which that version does not look at. */
+#define CRISP_LAYOUT 2
 
 /* Bytes of a table, and its slots. A table of zeros is an empty one. It may be kept and saved as it is (see "Keys" below). Any bytes are safe to
  * hand in: a record that breaks the damage rule (unsound key data, Size or start, a highest number and marks that do not fit each other, totals
  * beyond their bounds) is refused with 7; one whose stored KeyId or source is longer than its room matches no message, which is then refused
- * with 6 unless another entry has its name. Other changes, of a byte of a key or of a total within its bounds, are not noticed: whoever saves a
- * table sees to it that it comes back as it was. */
+ * with 6 unless another entry has its name. Other changes, of a byte of a key, from one edition to the other or of a total within its bounds, are
+ * not noticed: whoever saves a table sees to it that it comes back as it was. */
 #define CRISP_TABLE 4608
 #define CRISP_SLOTS 16
 
@@ -80,13 +85,13 @@ enum {
     CRISP_BAD_SUITE = 4,        /* suite not 1 or 2 */
     CRISP_TOO_SHORT = 5,        /* message too short for its KeyId and its check value */
     CRISP_NO_ENTRY = 6,         /* no slot matches */
-    CRISP_DAMAGED = 7,          /* the entry's record is damaged; of a sender: unsound key data, or a number over 2^48 - 1 */
+    CRISP_DAMAGED = 7,          /* the entry's record is damaged; of a sender: unsound key data (edition 0 is), or a number over 2^48 - 1 */
     CRISP_OTHER_SUITE = 8,      /* suite not the entry's */
     CRISP_BELOW_FLOOR = 9,      /* number below the window, or below the entry's start */
     CRISP_REPEATED = 10,        /* number accepted before */
-    CRISP_WRONG_ICV = 11,       /* check value wrong */
+    CRISP_WRONG_ICV = 11,       /* check value wrong; of all messages of a controller: its entry has another key or another edition */
     CRISP_NO_NUMBER = 12,       /* the sender has used number 2^48 - 1 */
-    CRISP_UNSOUND = 13,         /* key data, window size or start unsound */
+    CRISP_UNSOUND = 13,         /* key data (its edition is part of it), window size or start unsound */
     CRISP_TWIN = 14,            /* an occupied slot has the same flag and KeyId and, for flag 1, source */
     CRISP_FULL = 15,            /* no free slot */
     CRISP_NO_SLOT = 16,         /* slot over 15, or free */
@@ -110,7 +115,13 @@ struct crisp_answer {
  * A number must not be used twice under one key. Of two messages with one number the receiver takes at most one; and in suite 1 both have the
  * same gamma, so whoever sees both has the exclusive or of their payloads, and with one payload the other. Therefore save the record after
  * crisp_protect and before the message leaves, and let it not leave if the record was not saved; never go on from an older copy; and where the
- * record is lost, take a new key. Numbers that were saved and never sent do no harm. examples/kept.c among the sources does so. */
+ * record is lost, take a new key. Numbers that were saved and never sent do no harm. examples/kept.c among the sources does so.
+ *
+ * The edition says from which bits of its number the keys of a message are made; nothing else depends on it. 2 is the rule of the standard's
+ * examples: the top 35 of the 48. 1 is for the older controllers that were built from a copy which prints LSB: the low 35, and only with suite 1. A
+ * record that a program zeroed has edition 0. It is refused with 7, and no message is made: set 2, or 1 to send as those controllers do. In edition 1
+ * numbers that are 2^35 apart have the same gamma, as if one had been used twice. So take a new key before a sender has gone so far, and where a
+ * sender changes its edition. */
 struct crisp_sender {
     uint8_t flag;               /* ExternalKeyIdFlag, 0 or 1 */
     uint8_t keyid[CRISP_KEYID];
@@ -119,6 +130,7 @@ struct crisp_sender {
     size_t source_len;          /* 4 to 32 */
     uint8_t suite;              /* 1: enciphered; 2: in clear */
     uint8_t key[CRISP_KEY];
+    uint8_t edition;            /* 2; with suite 1 also 1 */
     uint64_t current;
 };
 
@@ -149,7 +161,7 @@ CRISP_CHECK(crisp_sender_is_laid_out_as_in_the_library,
             offsetof(struct crisp_sender, flag) == 0 && offsetof(struct crisp_sender, keyid) == 1 && offsetof(struct crisp_sender, keyid_len) == 136
             && offsetof(struct crisp_sender, source) == 144 && offsetof(struct crisp_sender, source_len) == 176
             && offsetof(struct crisp_sender, suite) == 184 && offsetof(struct crisp_sender, key) == 185
-            && offsetof(struct crisp_sender, current) == 224 && sizeof(struct crisp_sender) == 232);
+            && offsetof(struct crisp_sender, edition) == 217 && offsetof(struct crisp_sender, current) == 224 && sizeof(struct crisp_sender) == 232);
 CRISP_CHECK(crisp_record_is_laid_out_as_in_the_library,
             offsetof(struct crisp_record, reply) == 0 && offsetof(struct crisp_record, source) == 8 && offsetof(struct crisp_record, message) == 16
             && offsetof(struct crisp_record, next) == 24 && sizeof(struct crisp_record) == 32);
@@ -173,10 +185,16 @@ CRISP_CHECK(crisp_record_is_laid_out_as_in_the_library,
 #define CRISP_AT_LEAST
 #endif
 
-/* Puts a fresh entry into the lowest free slot. flag, keyid, source, suite and the 32-byte key are as in the record above; size is the
+/* Puts a fresh entry into the lowest free slot. flag, keyid, source, suite, edition and the 32-byte key are as in the record above; size is the
  * window's, 1 to 256; start is the least number that the entry will ever take, 0 to CRISP_LAST. Done (0): slot is the slot taken; the entry has
- * highest number 0, nothing accepted, totals 0. Refuses with 13 (key data unsound, a flag over 1 with it, or size or start out of range), 14 (an
- * occupied slot has the same flag and KeyId and, for flag 1, source) and 15 (no free slot), in that order. Touches no other slot.
+ * highest number 0, nothing accepted, totals 0. Refuses with 13 (key data unsound, also by a flag over 1, by an edition that is not 1 or 2, or by 1
+ * with another suite than 1; size or start out of range), 14 (an occupied slot has the same flag and KeyId and, for flag 1, source) and 15 (no free
+ * slot), in that order. Touches no other slot.
+ *
+ * edition is 2, and 1 for one of the older controllers that read LSB. A message does not tell it. Where an entry has the wrong one, every message of
+ * its controller is refused with 11, as if the key were wrong: remove the entry and install it with the other edition. Only where the top and the
+ * low 35 bits of its number are the same does a message pass, for both editions then make the same one: this is so of 8,192 of the 2^48 numbers,
+ * 0 and CRISP_LAST among them.
  *
  * start is for a key that has a past. For a key that is used for the first time it is 0. For a key that comes from another gateway, or whose entry
  * was removed and is installed again, it is the larger of two numbers of the old entry: its start, and one more than its highest number (`start=`, in
@@ -184,10 +202,10 @@ CRISP_CHECK(crisp_record_is_laid_out_as_in_the_library,
  * Left at 0 on a replacement gateway, the whole archive passes once more: each old message is genuine, its number is new to this table, and it is
  * booked a second time. A message below start that the old entry never took is refused too (9), so let the old gateway first take what is under
  * way. Where its highest number is not known, or is CRISP_LAST, take a new key. */
-CRISP_CALL CRISP_READS(3, 4) CRISP_READS(5, 6) CRISP_READS(8, 9)
+CRISP_CALL CRISP_READS(3, 4) CRISP_READS(5, 6) CRISP_READS(9, 10)
 struct crisp_answer crisp_install(uint8_t table[CRISP_AT_LEAST CRISP_TABLE], uint8_t flag, const uint8_t *keyid, size_t keyid_len,
-                                  const uint8_t *source, size_t source_len, uint8_t suite, const uint8_t *key, size_t key_len, uint64_t size,
-                                  uint64_t start);
+                                  const uint8_t *source, size_t source_len, uint8_t suite, uint8_t edition, const uint8_t *key, size_t key_len,
+                                  uint64_t size, uint64_t start);
 
 /* Frees a slot, which then holds zeros only; the entry's history is over, its highest number with it: list it first where the key is to be
  * installed again. Done (0): slot is the slot freed. Refuses with 16 (slot over 15, or free). Touches no other slot. */
@@ -208,16 +226,17 @@ struct crisp_answer crisp_receive(uint8_t table[CRISP_AT_LEAST CRISP_TABLE], con
                                   size_t source_len, uint8_t *out, size_t out_len);
 
 /* Writes the next message for a payload. Done (0): the message stands at the start of the output, later bytes stay; length is the message's,
- * seqnum its number, which the record's current now is. Refuses with 1 (output under 2,048 bytes), 7 (unsound key data, or current over
- * 2^48 - 1), 2 (payload over 2,035 less keyid_len) and 12 (current is 2^48 - 1), in that order. Touches nothing of the record but current, and
- * writes that by every call, a refused one too, with the number that stood there: the record must not lie in memory that cannot be written. The
- * output must not be where the payload or the record is. Save the record before the message leaves, as is said at the struct. */
+ * seqnum its number, which the record's current now is. Refuses with 1 (output under 2,048 bytes), 7 (unsound key data, also by an edition that was
+ * not set, or current over 2^48 - 1), 2 (payload over 2,035 less keyid_len) and 12 (current is 2^48 - 1), in that order. Touches nothing of the
+ * record but current, and writes that by every call, a refused one too, with the number that stood there: the record must not lie in memory that
+ * cannot be written. The output must not be where the payload or the record is. Save the record before the message leaves, as is said at the
+ * struct. */
 CRISP_CALL CRISP_READS(2, 3) CRISP_WRITES(4, 5)
 struct crisp_answer crisp_protect(struct crisp_sender *sender, const uint8_t *payload, size_t payload_len, uint8_t *out, size_t out_len);
 
-/* Writes the entry in a slot as text, from `slot=` to `bytes=`, each line ended by a line feed. Done (0): the text stands at the start of the
- * output, without a zero behind it, later bytes stay; length is the text's, slot the slot. Refuses with 1 (output under 2,048 bytes), 16
- * (slot over 15, or free) and 7 (record damaged), in that order. Does not touch the table. */
+/* Writes the entry in a slot as text, from `slot=` to `bytes=`, each line ended by a line feed; `edition=`, in decimal, follows `suite=`. Done (0):
+ * the text stands at the start of the output, without a zero behind it, later bytes stay; length is the text's, slot the slot. Refuses with 1 (output
+ * under 2,048 bytes), 16 (slot over 15, or free) and 7 (record damaged), in that order. Does not touch the table. */
 CRISP_CALL CRISP_WRITES(3, 4)
 struct crisp_answer crisp_listing(const uint8_t table[CRISP_AT_LEAST CRISP_TABLE], size_t slot, uint8_t *out, size_t out_len);
 

@@ -25,13 +25,14 @@ static long system_call(long number, long a, const void *b, size_t c)
 }
 
 static uint8_t table[CRISP_TABLE], message[CRISP_OUT], out[CRISP_OUT];
-static struct crisp_sender sender = {.flag = 0, .keyid = {0x05}, .keyid_len = 1, .source = "meter 17", .source_len = 8, .suite = 1, .key = {1, 2, 3}};
+static struct crisp_sender sender = {.flag = 0, .keyid = {0x05}, .keyid_len = 1, .source = "meter 17", .source_len = 8, .suite = 1, .key = {1, 2, 3},
+                                     .edition = 2};
 
 static int exchange(void)
 {
     static const char reading[] = "17.3 GJ";
     struct crisp_answer a = crisp_install(table, sender.flag, sender.keyid, sender.keyid_len, sender.source, sender.source_len, sender.suite,
-                                          sender.key, CRISP_KEY, CRISP_SIZE, 0);
+                                          sender.edition, sender.key, CRISP_KEY, CRISP_SIZE, 0);
     if (a.reply != CRISP_DONE) return 1;
     a = crisp_protect(&sender, (const uint8_t *)reading, sizeof reading, message, sizeof message);
     if (a.reply != CRISP_DONE) return 2;

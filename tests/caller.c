@@ -26,10 +26,14 @@ int main(void)
     sender.keyid_len = 1;
     sender.source_len = 4;
     sender.suite = 1;
-    a = crisp_install(table, 0, sender.keyid, sender.keyid_len, sender.source, sender.source_len, sender.suite, sender.key, CRISP_KEY, CRISP_SIZE, 0);
+    a = crisp_protect(&sender, CRISP_NOTHING, 0, message, sizeof message);      /* its edition was not set */
+    if (a.reply != CRISP_DAMAGED) return 10;
+    sender.edition = 2;
+    a = crisp_install(table, 0, sender.keyid, sender.keyid_len, sender.source, sender.source_len, sender.suite, sender.edition, sender.key, CRISP_KEY,
+                      CRISP_SIZE, 0);
     if (a.reply != CRISP_DONE || a.slot >= CRISP_SLOTS) return 1;
-    a = crisp_install(table, 0, sender.keyid, sender.keyid_len, sender.source, sender.source_len, sender.suite, sender.key, CRISP_KEY, CRISP_SIZE,
-                      CRISP_LAST + 1);
+    a = crisp_install(table, 0, sender.keyid, sender.keyid_len, sender.source, sender.source_len, sender.suite, sender.edition, sender.key, CRISP_KEY,
+                      CRISP_SIZE, CRISP_LAST + 1);
     if (a.reply != CRISP_UNSOUND) return 9;
     a = crisp_protect(&sender, CRISP_NOTHING, 0, message, sizeof message);
     if (a.reply != CRISP_DONE) return 2;

@@ -129,11 +129,13 @@ static void make_table(void)
         s->source_len = 4 + below(29);
         fill(s->source, s->source_len);
         s->suite = (uint8_t)(1 + below(2));
+        s->edition = s->suite == 1 ? (uint8_t)(1 + below(2)) : 2;
         fill(s->key, 32);
         s->current = below(3) ? below(8) : (1ULL << 48) - 20;
-        uint8_t suite = below(8) ? s->suite : (uint8_t)(3 - s->suite);          /* some entries have the other suite */
-        uint64_t start = below(4) ? 0 : s->current + below(8);                  /* and some a start */
-        (void)crisp_install(table, s->flag, s->keyid, s->keyid_len, s->source, s->source_len, suite, s->key, 32, 1 + below(8), start).reply;
+        uint8_t suite = below(8) ? s->suite : (uint8_t)(3 - s->suite);          /* some entries have the other suite, */
+        uint8_t edition = suite == 2 ? 2 : below(8) ? s->edition : (uint8_t)(3 - s->edition);
+        uint64_t start = below(4) ? 0 : s->current + below(8);                  /* some the other edition, and some a start */
+        (void)crisp_install(table, s->flag, s->keyid, s->keyid_len, s->source, s->source_len, suite, edition, s->key, 32, 1 + below(8), start).reply;
     }
     if (!below(4)) table[288 * below(ENTRIES) + 198 + below(72)] ^= 0x41;       /* some are damaged */
     memcpy(ref_table, table, CRISP_TABLE);

@@ -13,6 +13,9 @@
 
 enum { ENTRIES = 24, KEPT = 64, ROOM = 2304 };
 
+/* of a slot: its bytes, and where edition, Size and start stand in it */
+enum { SLOT = CRISP_TABLE / CRISP_SLOTS, EDITION = 3, SIZE = 198, START = 206 };
+
 /* ---- what was called, for the report */
 
 static char trace[1 << 18];
@@ -46,6 +49,12 @@ enum start { KEPT_START, REFUSED_START, BELOW_START, DAMAGED_START, STARTS };
 static const char *const start_names[STARTS] = {"kept", "refused", "above a message", "damaged"};
 static uint64_t by_start[STARTS];
 
+/* what editions did: 1 kept by an install; installs, records and senders refused that edition 2 would not have been; messages refused with 11 that the
+ * entry's other edition would have opened */
+enum edition { KEPT_EDITION, REFUSED_EDITION, DAMAGED_EDITION, UNSENT_EDITION, OTHER_EDITION, EDITIONS };
+static const char *const edition_names[EDITIONS] = {"1 kept", "refused", "damaged", "not sent", "the other one's message"};
+static uint64_t by_edition[EDITIONS];
+
 static void differs(const char *what)
 {
     printf("compare: %s differs after\n%.*s\n", what, (int)(traced < sizeof trace ? traced : sizeof trace), trace);
@@ -73,6 +82,7 @@ static void same_outputs(void)
 /* ---- senders with their key data, from which entries are installed */
 
 static struct crisp_sender senders[ENTRIES], ref_senders[ENTRIES];
+static uint8_t editions[ENTRIES];               /* of the entries: the sender's, and now and then another one */
 static uint64_t sizes[ENTRIES], starts[ENTRIES];
 
 struct message {
@@ -98,8 +108,10 @@ static void make_senders(void)
         s->source_len = 4 + below(29);
         fill(s->source, s->source_len);
         s->suite = (uint8_t)(1 + below(2));
+        s->edition = s->suite == 1 ? (uint8_t)(1 + below(2)) : 2;
         fill(s->key, 32);
-        s->current = below(4) ? below(8) : (1ULL << 48) - 1 - below(6);
+        s->current = below(4) ? below(8) : below(2) ? CRISP_LAST - below(6) : below(CRISP_LAST);
+        editions[i] = below(8) ? s->edition : (uint8_t)(3 - s->edition);
         sizes[i] = widths[below(sizeof widths / sizeof *widths)];
         starts[i] = below(3) ? 0 : s->current + below(4);
         if (starts[i] > CRISP_LAST) starts[i] = CRISP_LAST;
@@ -110,19 +122,26 @@ static void make_senders(void)
 
 /* ---- the calls */
 
-static void call_install(const struct crisp_sender *s, uint64_t size, uint64_t start, size_t key_len)
+static void call_install(const struct crisp_sender *s, uint8_t edition, uint64_t size, uint64_t start, size_t key_len)
 {
     uint8_t key[40] = {0};
     memcpy(key, s->key, 32);
-    say("install flag=%d suite=%d size=%llu start=%llu", s->flag, s->suite, (unsigned long long)size, (unsigned long long)start);
+    say("install flag=%d suite=%d edition=%d size=%llu start=%llu", s->flag, s->suite, edition, (unsigned long long)size, (unsigned long long)start);
     say_bytes("keyid", s->keyid, s->keyid_len);
     say_bytes("source", s->source, s->source_len);
     say_bytes("key", key, key_len);
-    struct crisp_answer a = crisp_install(table, s->flag, s->keyid, s->keyid_len, s->source, s->source_len, s->suite, key, key_len, size, start);
-    struct crisp_answer b = ref_install(ref_table, s->flag, s->keyid, s->keyid_len, s->source, s->source_len, s->suite, key, key_len, size, start);
+    struct crisp_answer a = crisp_install(table, s->flag, s->keyid, s->keyid_len, s->source, s->source_len, s->suite, edition, key, key_len, size, start);
+    struct crisp_answer b = ref_install(ref_table, s->flag, s->keyid, s->keyid_len, s->source, s->source_len, s->suite, edition, key, key_len, size,
+                                        start);
     agree(INSTALL, a, b);
     if (start && !a.reply) by_start[KEPT_START]++;
     if (start > CRISP_LAST && a.reply == 13) by_start[REFUSED_START]++;
+    if (edition == 1 && !a.reply) by_edition[KEPT_EDITION]++;
+    if (a.reply != 13) return;
+    static uint8_t other[CRISP_TABLE];
+    memcpy(other, ref_table, CRISP_TABLE);
+    b = ref_install(other, s->flag, s->keyid, s->keyid_len, s->source, s->source_len, s->suite, 2, key, key_len, size, start);
+    if (b.reply != 13) by_edition[REFUSED_EDITION]++;
 }
 
 static void call_remove(size_t slot)
@@ -130,6 +149,32 @@ static void call_remove(size_t slot)
     say("remove %zu", slot);
     struct crisp_answer a = crisp_remove(table, slot);
     agree(REMOVE, a, ref_remove(ref_table, slot));
+}
+
+/* the table with start 0 in each slot, with edition 2, or with the other edition */
+enum otherwise { NO_START, SECOND, OTHER, OTHERWISE };
+
+static uint8_t *table_with(enum otherwise what)
+{
+    static uint8_t other[CRISP_TABLE];
+    memcpy(other, ref_table, CRISP_TABLE);
+    for (uint8_t *slot = other; slot < other + CRISP_TABLE; slot += SLOT)
+        if (what == NO_START) memset(slot + START, 0, 8);
+        else slot[EDITION] = what == SECOND ? 2 : (uint8_t)(3 - slot[EDITION]);
+    return other;
+}
+
+/* a refused message is counted where another reply would have met it with such a table */
+static void count_refused(uint64_t reply, const uint8_t *message, size_t n, const uint8_t *source, size_t source_len, size_t room)
+{
+    static uint8_t other[ROOM];
+    uint64_t with[OTHERWISE];
+    for (int what = 0; what < OTHERWISE; what++)
+        with[what] = ref_receive(table_with((enum otherwise)what), message, n, source, source_len, other, room).reply;
+    if (reply == 9 && with[NO_START] != 9) by_start[BELOW_START]++;
+    if (reply == 7 && with[NO_START] != 7) by_start[DAMAGED_START]++;
+    if (reply == 7 && with[SECOND] != 7) by_edition[DAMAGED_EDITION]++;
+    if (reply == 11 && with[OTHER] == 0) by_edition[OTHER_EDITION]++;
 }
 
 static void call_receive(const uint8_t *message, size_t n, const uint8_t *source, size_t source_len, size_t room)
@@ -140,11 +185,7 @@ static void call_receive(const uint8_t *message, size_t n, const uint8_t *source
     same_outputs();
     struct crisp_answer a = crisp_receive(table, message, n, source, source_len, out, room);
     agree(RECEIVE, a, ref_receive(ref_table, message, n, source, source_len, ref_out, room));
-    if (a.reply != 9 && a.reply != 7) return;
-    static uint8_t without[CRISP_TABLE], other[ROOM];
-    memcpy(without, ref_table, CRISP_TABLE);
-    for (int i = 0; i < CRISP_SLOTS; i++) memset(without + 288 * i + 206, 0, 8);
-    if (ref_receive(without, message, n, source, source_len, other, room).reply != a.reply) by_start[a.reply == 9 ? BELOW_START : DAMAGED_START]++;
+    if (a.reply == 7 || a.reply == 9 || a.reply == 11) count_refused(a.reply, message, n, source, source_len, room);
 }
 
 static void call_listing(size_t slot, size_t room)
@@ -157,19 +198,28 @@ static void call_listing(size_t slot, size_t room)
 
 static struct crisp_answer call_protect(struct crisp_sender *s, struct crisp_sender *r, const uint8_t *payload, size_t n, size_t room)
 {
-    say("protect current=%llu out=%zu", (unsigned long long)s->current, room);
+    say("protect suite=%d edition=%d current=%llu out=%zu", s->suite, s->edition, (unsigned long long)s->current, room);
     say_bytes("payload", payload, n);
     same_outputs();
     struct crisp_answer a = crisp_protect(s, payload, n, out, room);
     struct crisp_answer b = ref_protect(r, payload, n, ref_out, room);
     if (memcmp(s, r, sizeof *s)) differs("the sender's record");
     agree(PROTECT, a, b);
+    if (a.reply != 7) return a;
+    static uint8_t other[ROOM];
+    struct crisp_sender second = *r;
+    second.edition = 2;
+    if (ref_protect(&second, payload, n, other, room).reply != 7) by_edition[UNSENT_EDITION]++;
     return a;
 }
+
+/* the entry of sender i */
+static void install(int i) { call_install(&senders[i], editions[i], sizes[i], starts[i], 32); }
 
 /* ---- random calls */
 
 static size_t some_room(void) { return below(16) ? 2048 : 2040 + below(17); }
+static uint8_t some_byte(void) { return (uint8_t)(below(2) ? below(4) : rnd()); }
 
 static void random_protect(int from, int likely)
 {
@@ -178,8 +228,8 @@ static void random_protect(int from, int likely)
     fill(payload, n);
     struct crisp_sender s = senders[from], r = ref_senders[from];
     if (!likely) {
-        uint8_t *bytes[] = {&s.flag, &s.suite, &s.keyid[0], (uint8_t *)&s.keyid_len, (uint8_t *)&s.source_len, (uint8_t *)&s.current + 6};
-        *bytes[below(6)] = (uint8_t)rnd();
+        uint8_t *bytes[] = {&s.flag, &s.suite, &s.edition, &s.keyid[0], (uint8_t *)&s.keyid_len, (uint8_t *)&s.source_len, (uint8_t *)&s.current + 6};
+        *bytes[below(7)] = some_byte();
         r = s;
         call_protect(&s, &r, payload, n, some_room());
         return;
@@ -196,9 +246,10 @@ static void random_install(void)
 {
     int i = (int)below(ENTRIES);
     struct crisp_sender s = senders[i];
+    uint8_t edition = editions[i];
     uint64_t size = sizes[i], start = starts[i];
     size_t key_len = 32;
-    switch (below(13)) {
+    switch (below(14)) {
     case 0: s.flag = (uint8_t)below(4); break;
     case 1: s.suite = (uint8_t)below(4); break;
     case 2: s.keyid_len = below(129); break;
@@ -206,8 +257,9 @@ static void random_install(void)
     case 4: size = below(3) ? 256 + below(2) : 0; break;
     case 5: key_len = 28 + below(9); break;
     case 6: start = below(4) ? CRISP_LAST - 1 + below(4) : rnd(); break;
+    case 7: edition = some_byte(); break;
     }
-    call_install(&s, size, start, key_len);
+    call_install(&s, edition, size, start, key_len);
 }
 
 static void random_receive(void)
@@ -232,8 +284,8 @@ static void random_receive(void)
 
 static void random_damage(void)
 {
-    size_t at = below(4) ? 288 * below(16) + below(288) : 288 * below(3) + 198 + below(72);
-    uint8_t x = below(2) ? (uint8_t)rnd() : (uint8_t)(table[at] ^ 1 << below(8));
+    size_t at = below(4) ? SLOT * below(16) + below(SLOT) : SLOT * below(3) + (below(3) ? SIZE + below(72) : EDITION);
+    uint8_t x = below(2) ? some_byte() : (uint8_t)(table[at] ^ 1 << below(8));
     say("byte %zu of the table becomes %02x\n", at, x);
     table[at] = ref_table[at] = x;
 }
@@ -266,7 +318,7 @@ static void random_sequence(uint64_t seed)
     clear_tables();
     make_senders();
     int entries = below(8) ? 1 + (int)below(4) : ENTRIES;
-    for (int i = 0; i < entries; i++) call_install(&senders[i], sizes[i], starts[i], 32);
+    for (int i = 0; i < entries; i++) install(i);
     for (int n = 2 + (int)below(10); n > 0; n--) {
         if (below(4)) random_call();
         else {                                                                  /* a message to an entry that stands, and at once */
@@ -328,14 +380,14 @@ static void sweep_room(int i, const uint8_t *payload, size_t n)
 /* each byte of the entry replaced, and every function on what is left of it */
 static void sweep_damage(int i)
 {
-    for (size_t at = 0; at < 288; at++)
+    for (size_t at = 0; at < SLOT; at++)
         for (int v = 0; v < 4; v++) {
             back();
             table[at] = ref_table[at] = (uint8_t)(v == 0 ? 0 : v == 1 ? 255 : v == 2 ? saved[at] + 1 : saved[at] ^ 0x80);
             say("byte %zu becomes %02x\n", at, table[at]);
             arrives(i, swept_length, senders[i].source_len, 2048);
             call_listing(0, 2048);
-            call_install(&senders[i], sizes[i], starts[i], 32);
+            install(i);
             call_remove(0);
         }
 }
@@ -346,7 +398,7 @@ static void sweep(int i, size_t n)
     fill(payload, n);
     clear_tables();
     traced = 0;
-    call_install(&senders[i], sizes[i], starts[i], 32);
+    install(i);
     if (!next_message(i, payload, n)) return;
     memcpy(saved, table, CRISP_TABLE);
     sweep_message(i);
@@ -364,7 +416,7 @@ static void sweep_payloads(void)
     fill(data, sizeof data);
     for (int i = 0; i < 6; i++) {
         clear_tables();
-        call_install(&senders[i], sizes[i], starts[i], 32);
+        install(i);
         for (size_t n = 0; n <= 2100; n += n > 40 && n < 1880 ? 37 : 1) {
             traced = 0;
             struct crisp_answer a = call_protect(&senders[i], &ref_senders[i], data, n, 2048);
@@ -376,12 +428,38 @@ static void sweep_payloads(void)
     }
 }
 
+/* the senders for the sweeps: current 5, start 0, 6 and 5, and of each suite each edition, with a start and without */
+static void make_swept(void)
+{
+    static const uint8_t suites[] = {1, 1, 2, 1}, in_editions[] = {1, 2, 2, 1};
+    make_senders();
+    for (int i = 0; i < 8; i++) {
+        senders[i].current = 5;
+        senders[i].suite = suites[i / 2];
+        senders[i].edition = editions[i] = in_editions[i / 2];
+        starts[i] = i % 2 ? 6 - (uint64_t)i / 4 : 0;
+    }
+    memcpy(ref_senders, senders, sizeof senders);
+}
+
+/* one line of counts; answers how many are 0 */
+static int print_counts(const char *name, const char *const names[], const uint64_t counts[], int n)
+{
+    int missing = 0;
+    printf("%-8s", name);
+    for (int i = 0; i < n; i++) {
+        printf("  %s: %llu", names[i], (unsigned long long)counts[i]);
+        missing += !counts[i];
+    }
+    printf("\n");
+    return missing;
+}
+
 int main(int argc, char **argv)
 {
     uint64_t sequences = argc > 1 ? strtoull(argv[1], NULL, 0) : 100000, seed = argc > 2 ? strtoull(argv[2], NULL, 0) : 1;
     random_state = seed;
-    make_senders();
-    for (int i = 0; i < 8; i++) senders[i].current = ref_senders[i].current = 5, starts[i] = i % 2 ? 6 - (uint64_t)i / 4 : 0;      /* 0, 6 and 5 */
+    make_swept();
     for (int i = 0; i < 8; i++) sweep(i, 7 * (size_t)i);
     sweep_payloads();
     uint64_t swept = compared;
@@ -398,12 +476,7 @@ int main(int argc, char **argv)
         for (int c = 0; c < CALLS; c++) n += replies[c][r];
         if (!n) printf("reply %d was never given\n", r), missing++;
     }
-    printf("start   ");
-    for (int k = 0; k < STARTS; k++) {
-        printf("  %s: %llu", start_names[k], (unsigned long long)by_start[k]);
-        if (!by_start[k]) missing++;
-    }
-    printf("\n");
+    missing += print_counts("start", start_names, by_start, STARTS) + print_counts("edition", edition_names, by_edition, EDITIONS);
     printf("compare: %llu calls in sweeps and %llu in %llu random sequences, no difference\n", (unsigned long long)swept,
            (unsigned long long)(compared - swept), (unsigned long long)sequences);
     return missing ? 1 : 0;

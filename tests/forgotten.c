@@ -14,7 +14,7 @@ static int forgets;
 
 static void install(void)
 {
-    answer = crisp_install(table, 1, sender.keyid, 1, sender.source, 32, sender.suite, sender.key, CRISP_KEY, 64, 0);
+    answer = crisp_install(table, 1, sender.keyid, 1, sender.source, 32, sender.suite, sender.edition, sender.key, CRISP_KEY, 64, 0);
     if (forgets) crisp_forget();
 }
 static void protect(void)
@@ -50,7 +50,7 @@ static int look(const char *name, void (*f)(void))
     on_stack(f, stack + STACK, 0);
     if (answer.reply != CRISP_DONE) return -1;
     ref_key(sender.key, base);
-    ref_keys(base, 1, sender.source, 32, 1, keys[0], keys[1]);
+    ref_keys(base, 1, sender.edition, sender.source, 32, 1, keys[0], keys[1]);
     const struct { const void *at; size_t n; } secrets[] = {{sender.key, 32}, {keys[0], 32}, {keys[1], 32}, {payload, sizeof payload}};
     int all = 0;
     printf("%-10s%s", name, forgets ? " forgotten:" : "          :");
@@ -67,7 +67,7 @@ int main(void)
 {
     int bad = 0;
     random_state = 1;
-    sender = (struct crisp_sender){.flag = 1, .keyid = {5}, .keyid_len = 1, .source_len = 32, .suite = 1};
+    sender = (struct crisp_sender){.flag = 1, .keyid = {5}, .keyid_len = 1, .source_len = 32, .suite = 1, .edition = 2};
     fill(sender.source, 32);
     fill(sender.key, CRISP_KEY);
     fill(payload, sizeof payload);

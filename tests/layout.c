@@ -1,7 +1,8 @@
 /* layout.c: prints the bytes of an occupied slot and of a sender's record, all fields of both in use. The file tests/layout.N has them for CRISP_LAYOUT N:
- * whoever moves a field raises the number and stores a new file, so that saved bytes of before are told apart.
+ * whoever moves a field or gives it another meaning raises the number and stores a new file, so that saved bytes of before are told apart.
  *
- *   layout read        takes a slot from standard input, as it is printed, and prints the entry's listing */
+ *   layout before      takes a slot of layout 1 from standard input, as it was printed, and a record where there is one. Both must be refused as they
+ *                      are; with edition 2 put in, it prints the entry's listing and the record's next message, which the entry must take */
 #include "crisp.h"
 #include <stdio.h>
 #include <string.h>
@@ -13,37 +14,60 @@ static void print(const char *name, const void *bytes, size_t n)
     printf("\n");
 }
 
-static uint8_t table[CRISP_TABLE], message[CRISP_OUT], out[CRISP_OUT];
-
-static int listed(void)
+/* whether standard input goes on with that name and so many bytes */
+static int scan(const char *name, void *bytes, size_t n)
 {
     char word[8];
     unsigned byte;
-    if (scanf("%7s", word) != 1 || strcmp(word, "slot")) return 4;
-    for (size_t i = 0; i < CRISP_TABLE / CRISP_SLOTS; i++) {
-        if (scanf("%2x", &byte) != 1) return 5;
-        table[i] = (uint8_t)byte;
+    if (scanf("%7s", word) != 1 || strcmp(word, name)) return 0;
+    for (size_t i = 0; i < n; i++) {
+        if (scanf("%2x", &byte) != 1) return 0;
+        ((uint8_t *)bytes)[i] = (uint8_t)byte;
     }
+    return 1;
+}
+
+static uint8_t table[CRISP_TABLE], message[CRISP_OUT], out[CRISP_OUT];
+static struct crisp_sender s = {.flag = 1, .keyid = {0x83, 0xa1, 0xa2, 0xa3}, .keyid_len = 4, .source = "meter 0017", .source_len = 10, .suite = 1,
+                                .edition = 1};
+
+/* the record's next message, and the entry's reply to it */
+static int arrives(size_t *length)
+{
+    struct crisp_answer a = crisp_protect(&s, (const uint8_t *)"17.3 GJ", 7, message, sizeof message);
+    if (a.reply != CRISP_DONE) return 100 + (int)a.reply;
+    *length = a.length;
+    return (int)crisp_receive(table, message, a.length, s.source, s.source_len, out, sizeof out).reply;
+}
+
+static int before(void)
+{
+    size_t length;
+    if (!scan("slot", table, CRISP_TABLE / CRISP_SLOTS) || crisp_listing(table, 0, out, sizeof out).reply != CRISP_DAMAGED) return 4;
+    table[3] = 2;
     struct crisp_answer a = crisp_listing(table, 0, out, sizeof out);
+    if (a.reply != CRISP_DONE) return 5;
     printf("%.*s", (int)a.length, (const char *)out);
-    return (int)a.reply;
+    if (!scan("record", &s, sizeof s)) return 0;
+    if (arrives(&length) != 100 + CRISP_DAMAGED) return 6;
+    s.edition = 2;
+    if (arrives(&length) != CRISP_DONE) return 7;
+    print("message", message, length);
+    return 0;
 }
 
 int main(int argc, char **argv)
 {
+    size_t length;
     (void)argv;
-    if (argc > 1) return listed();
-    static struct crisp_sender s = {.flag = 1, .keyid = {0x83, 0xa1, 0xa2, 0xa3}, .keyid_len = 4, .source = "meter 0017", .source_len = 10, .suite = 1};
+    if (argc > 1) return before();
     for (int i = 0; i < CRISP_KEY; i++) s.key[i] = (uint8_t)(i + 1);
-    struct crisp_answer a = crisp_install(table, s.flag, s.keyid, s.keyid_len, s.source, s.source_len, s.suite, s.key, sizeof s.key, 65,
+    struct crisp_answer a = crisp_install(table, s.flag, s.keyid, s.keyid_len, s.source, s.source_len, s.suite, s.edition, s.key, sizeof s.key, 65,
                                           0x7172737475);
     if (a.reply != CRISP_DONE) return 1;
     for (int i = 0; i < 3; i++) {
         s.current += 0x010203040500 / 2;
-        a = crisp_protect(&s, (const uint8_t *)"17.3 GJ", 7, message, sizeof message);
-        if (a.reply != CRISP_DONE) return 2;
-        a = crisp_receive(table, message, a.length, s.source, s.source_len, out, sizeof out);
-        if (a.reply != CRISP_DONE) return 3;
+        if (arrives(&length) != CRISP_DONE) return 2;
     }
     print("slot", table, CRISP_TABLE / CRISP_SLOTS);
     print("record", &s, sizeof s);

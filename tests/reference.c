@@ -97,15 +97,17 @@ void ref_counter(const u32 key[8], u32 iv, const u8 *bytes, size_t n, u8 *out)
     }
 }
 
-/* ---- derived keys: R 1323565.1.029-2019, 6.4, with SN as the scope has it */
+/* ---- derived keys: R 1323565.1.029-2019, 6.4, with SN as the scope has it, and in edition 1 as document 02, No. 4, has it */
 
-static void derive(const u32 base[8], struct subkeys sub, int suite, const u8 *source, size_t source_len, u64 seqnum, int first, u32 key[8])
+static u64 serial(int edition, u64 seqnum) { return edition == 1 ? seqnum & 0x7ffffffff : seqnum >> 13; }
+
+static void derive(const u32 base[8], struct subkeys sub, int suite, int edition, const u8 *source, size_t source_len, u64 seqnum, int first, u32 key[8])
 {
     u8 data[64];
     size_t n = 1;
     memcpy(data + n, suite == 1 ? "macenc" : "macmac", 6), n += 6;
     data[n++] = 6;
-    set(data + n, 5, seqnum >> 13), n += 5;
+    set(data + n, 5, serial(edition, seqnum)), n += 5;
     memcpy(data + n, source, source_len), n += source_len;
     data[n++] = (u8)suite;
     set(data + n, 2, 6 + source_len), n += 2;
@@ -118,26 +120,28 @@ static void derive(const u32 base[8], struct subkeys sub, int suite, const u8 *s
     }
 }
 
-void ref_keys(const u32 base[8], int suite, const u8 *source, size_t source_len, u64 seqnum, u32 check[8], u32 cipher[8])
+void ref_keys(const u32 base[8], int suite, int edition, const u8 *source, size_t source_len, u64 seqnum, u32 check[8], u32 cipher[8])
 {
     struct subkeys sub = subkeys(base);
-    derive(base, sub, suite, source, source_len, seqnum, 1, check);
-    if (suite == 1) derive(base, sub, suite, source, source_len, seqnum, 5, cipher);
+    derive(base, sub, suite, edition, source, source_len, seqnum, 1, check);
+    if (suite == 1) derive(base, sub, suite, edition, source, source_len, seqnum, 5, cipher);
 }
 
-static u32 icv_of(const u32 base[8], struct subkeys sub, int suite, const u8 *source, size_t source_len, u64 seqnum, const u8 *bytes, size_t n)
+static u32 icv_of(const u32 base[8], struct subkeys sub, int suite, int edition, const u8 *source, size_t source_len, u64 seqnum, const u8 *bytes,
+                  size_t n)
 {
     u32 key[8];
-    derive(base, sub, suite, source, source_len, seqnum, 1, key);
+    derive(base, sub, suite, edition, source, source_len, seqnum, 1, key);
     return (u32)(ref_check(key, bytes, n) >> 32);
 }
 
 /* suite 1 enciphers, suite 2 leaves the payload as it is */
-static void encipher(const u32 base[8], struct subkeys sub, int suite, const u8 *source, size_t source_len, u64 seqnum, const u8 *bytes, size_t n, u8 *out)
+static void encipher(const u32 base[8], struct subkeys sub, int suite, int edition, const u8 *source, size_t source_len, u64 seqnum, const u8 *bytes,
+                     size_t n, u8 *out)
 {
     if (suite == 1) {
         u32 key[8];
-        derive(base, sub, suite, source, source_len, seqnum, 5, key);
+        derive(base, sub, suite, edition, source, source_len, seqnum, 5, key);
         ref_counter(key, (u32)seqnum, bytes, n, out);
     } else {
         memcpy(out, bytes, n);
@@ -148,16 +152,19 @@ static void encipher(const u32 base[8], struct subkeys sub, int suite, const u8 
 
 static size_t keyid_length(u8 first) { return first <= 0x80 ? 1 : (size_t)first - 0x7f; }
 
-static int sound(u8 flag, const u8 *keyid, size_t keyid_len, size_t source_len, u8 suite, size_t key_len)
+/* document 02, No. 4: suite 1 has both editions, suite 2 the second alone */
+static int suite_and_edition(u8 suite, u8 edition) { return suite == 1 ? edition == 1 || edition == 2 : suite == 2 && edition == 2; }
+
+static int sound(u8 flag, const u8 *keyid, size_t keyid_len, size_t source_len, u8 suite, u8 edition, size_t key_len)
 {
     return flag <= 1 && keyid_len >= 1 && keyid_len == keyid_length(keyid[0]) && source_len >= 4 && source_len <= 32 && key_len == 32
-        && (suite == 1 || suite == 2) && !(flag == 0 && keyid[0] == 0x80);
+        && suite_and_edition(suite, edition) && !(flag == 0 && keyid[0] == 0x80);
 }
 
 /* ---- the table: where the parts of an entry stand in its slot (docs/DECISIONS.md, 13) */
 
-enum { SLOT = 288, FLAG = 1, SUITE = 2, KEYID_LEN = 4, KEYID = 5, SOURCE_LEN = 133, SOURCE = 134, KEY = 166, SIZE = 198, START = 206, HIGHEST = 214,
-       MARKS = 222, ACCEPTED = 254, BYTES = 262 };
+enum { SLOT = 288, FLAG = 1, SUITE = 2, EDITION = 3, KEYID_LEN = 4, KEYID = 5, SOURCE_LEN = 133, SOURCE = 134, KEY = 166, SIZE = 198, START = 206,
+       HIGHEST = 214, MARKS = 222, ACCEPTED = 254, BYTES = 262 };
 
 #define LAST 0xffffffffffffULL
 
@@ -199,7 +206,7 @@ static int mark(const struct window *w, u64 i) { return i < 256 && w->marks[31 -
 
 static int undamaged(const u8 *s)
 {
-    if (!sound(s[FLAG], s + KEYID, s[KEYID_LEN], s[SOURCE_LEN], s[SUITE], 32)) return 0;
+    if (!sound(s[FLAG], s + KEYID, s[KEYID_LEN], s[SOURCE_LEN], s[SUITE], s[EDITION], 32)) return 0;
     struct window w = window_in(s);
     if (w.size < 1 || w.size > 256 || w.start > LAST || w.highest > LAST) return 0;
     u64 floor = floor_of(&w), count = 0;
@@ -240,10 +247,10 @@ static void take(u8 *s, u64 seqnum, u64 length)
 
 /* ---- the five functions */
 
-answer ref_install(u8 *table, u8 flag, const u8 *keyid, size_t keyid_len, const u8 *source, size_t source_len, u8 suite, const u8 *key, size_t key_len, u64 size,
-                   u64 start)
+answer ref_install(u8 *table, u8 flag, const u8 *keyid, size_t keyid_len, const u8 *source, size_t source_len, u8 suite, u8 edition, const u8 *key,
+                   size_t key_len, u64 size, u64 start)
 {
-    if (!sound(flag, keyid, keyid_len, source_len, suite, key_len) || size < 1 || size > 256 || start > LAST) return refuse(13);
+    if (!sound(flag, keyid, keyid_len, source_len, suite, edition, key_len) || size < 1 || size > 256 || start > LAST) return refuse(13);
     if (lookup(table, flag, keyid, keyid_len, source, source_len) >= 0) return refuse(14);
     for (size_t i = 0; i < 16; i++) {
         u8 *s = table + SLOT * i;
@@ -252,6 +259,7 @@ answer ref_install(u8 *table, u8 flag, const u8 *keyid, size_t keyid_len, const 
         s[0] = 1;
         s[FLAG] = flag;
         s[SUITE] = suite;
+        s[EDITION] = edition;
         s[KEYID_LEN] = (u8)keyid_len;
         memcpy(s + KEYID, keyid, keyid_len);
         s[SOURCE_LEN] = (u8)source_len;
@@ -292,9 +300,9 @@ answer ref_receive(u8 *table, const u8 *m, size_t n, const u8 *source, size_t so
     u32 base[8];
     ref_key(s + KEY, base);
     struct subkeys sub = subkeys(base);
-    if (get(m + n - 4, 4) != icv_of(base, sub, suite, s + SOURCE, s[SOURCE_LEN], seqnum, m, n - 4)) return refuse(11);
+    if (get(m + n - 4, 4) != icv_of(base, sub, suite, s[EDITION], s + SOURCE, s[SOURCE_LEN], seqnum, m, n - 4)) return refuse(11);
     size_t payload = n - 4 - (9 + length);
-    encipher(base, sub, suite, s + SOURCE, s[SOURCE_LEN], seqnum, m + 9 + length, payload, out);
+    encipher(base, sub, suite, s[EDITION], s + SOURCE, s[SOURCE_LEN], seqnum, m + 9 + length, payload, out);
     take(s, seqnum, payload);
     return done(payload, (size_t)slot, seqnum);
 }
@@ -302,7 +310,8 @@ answer ref_receive(u8 *table, const u8 *m, size_t n, const u8 *source, size_t so
 answer ref_protect(struct crisp_sender *r, const u8 *payload, size_t n, u8 *out, size_t out_len)
 {
     if (out_len < 2048) return refuse(1);
-    if (r->keyid_len > 128 || r->source_len > 32 || !sound(r->flag, r->keyid, r->keyid_len, r->source_len, r->suite, 32) || r->current > LAST) return refuse(7);
+    if (r->keyid_len > 128 || r->source_len > 32 || !sound(r->flag, r->keyid, r->keyid_len, r->source_len, r->suite, r->edition, 32)) return refuse(7);
+    if (r->current > LAST) return refuse(7);
     if (n > 2035 - r->keyid_len) return refuse(2);
     if (r->current == LAST) return refuse(12);
     u64 seqnum = ++r->current;
@@ -314,8 +323,8 @@ answer ref_protect(struct crisp_sender *r, const u8 *payload, size_t n, u8 *out,
     u32 base[8];
     ref_key(r->key, base);
     struct subkeys sub = subkeys(base);
-    encipher(base, sub, r->suite, r->source, r->source_len, seqnum, payload, n, p), p += n;
-    set(p, 4, icv_of(base, sub, r->suite, r->source, r->source_len, seqnum, out, (size_t)(p - out))), p += 4;
+    encipher(base, sub, r->suite, r->edition, r->source, r->source_len, seqnum, payload, n, p), p += n;
+    set(p, 4, icv_of(base, sub, r->suite, r->edition, r->source, r->source_len, seqnum, out, (size_t)(p - out))), p += 4;
     return done((size_t)(p - out), 0, seqnum);
 }
 
@@ -330,8 +339,8 @@ answer ref_listing(const u8 *table, size_t slot, u8 *out, size_t out_len)
     for (int i = 0; i < s[KEYID_LEN]; i++) p += sprintf(p, "%02x", s[KEYID + i]);
     p += sprintf(p, "\nsource=");
     for (int i = 0; i < s[SOURCE_LEN]; i++) p += sprintf(p, "%02x", s[SOURCE + i]);
-    p += sprintf(p, "\nsuite=%d\nsize=%llu\nstart=%llu\nhighest=%012llx\nmarks=", s[SUITE], (unsigned long long)get(s + SIZE, 8),
-                 (unsigned long long)get(s + START, 8), (unsigned long long)get(s + HIGHEST, 8));
+    p += sprintf(p, "\nsuite=%d\nedition=%d\nsize=%llu\nstart=%llu\nhighest=%012llx\nmarks=", s[SUITE], s[EDITION],
+                 (unsigned long long)get(s + SIZE, 8), (unsigned long long)get(s + START, 8), (unsigned long long)get(s + HIGHEST, 8));
     for (int i = 0; i < 32; i++) p += sprintf(p, "%02x", s[MARKS + i]);
     p += sprintf(p, "\naccepted=%llu\nbytes=%llu\n", (unsigned long long)get(s + ACCEPTED, 8), (unsigned long long)get(s + BYTES, 8));
     memcpy(out, text, (size_t)(p - text));

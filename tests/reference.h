@@ -12,10 +12,11 @@ uint64_t ref_check(const uint32_t key[8], const uint8_t *bytes, size_t n);
 void ref_counter(const uint32_t key[8], uint32_t iv, const uint8_t *bytes, size_t n, uint8_t *out);
 
 /* The derived keys of suite 1, or the check key alone of suite 2. */
-void ref_keys(const uint32_t base[8], int suite, const uint8_t *source, size_t source_len, uint64_t seqnum, uint32_t check[8], uint32_t cipher[8]);
+void ref_keys(const uint32_t base[8], int suite, int edition, const uint8_t *source, size_t source_len, uint64_t seqnum, uint32_t check[8],
+              uint32_t cipher[8]);
 
 struct crisp_answer ref_install(uint8_t *table, uint8_t flag, const uint8_t *keyid, size_t keyid_len, const uint8_t *source, size_t source_len,
-                                uint8_t suite, const uint8_t *key, size_t key_len, uint64_t size, uint64_t start);
+                                uint8_t suite, uint8_t edition, const uint8_t *key, size_t key_len, uint64_t size, uint64_t start);
 struct crisp_answer ref_remove(uint8_t *table, size_t slot);
 struct crisp_answer ref_receive(uint8_t *table, const uint8_t *message, size_t message_len, const uint8_t *source, size_t source_len,
                                 uint8_t *out, size_t out_len);
