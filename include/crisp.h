@@ -194,7 +194,7 @@ CRISP_CHECK(crisp_record_is_laid_out_as_in_the_library,
  * edition is 2, and 1 for one of the older controllers that read LSB. A message does not tell it. Where an entry has the wrong one, every message of
  * its controller is refused with 11, as if the key were wrong: remove the entry and install it with the other edition. Only where the top and the
  * low 35 bits of its number are the same does a message pass, for both editions then make the same one: this is so of 8,192 of the 2^48 numbers,
- * 0 and CRISP_LAST among them.
+ * 0 and CRISP_LAST among them. If one has passed, the entry has a past, and the new one a start, as follows.
  *
  * start is for a key that has a past. For a key that is used for the first time it is 0. For a key that comes from another gateway, or whose entry
  * was removed and is installed again, it is the larger of two numbers of the old entry: its start, and one more than its highest number (`start=`, in

@@ -53,7 +53,7 @@ fn write_data(suite: Suite, edition: u8, source: &[u8], seqnum: u64, out: &mut [
     octets::write(out, at + 3, 2, suite.output_bits());
 }
 
-// The bits of SeqNum that SN has: the low 35 of 48, or the top 35.
+// The 35 bits of SeqNum that SN has: in edition 1 its low ones, what is left below 2^35, else its top ones of 48, what stands above 2^13.
 fn serial(edition: u8, seqnum: u64) -> u64
     ensures { λ r. ⌜ r ≡ serialOf edition seqnum ⌝ }
 {
