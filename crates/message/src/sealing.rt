@@ -57,6 +57,7 @@ pub fn seal_under(
     ensures { λ r. ⌜ ((key : List ℕ) → keyWords key ≡ now (base .entry) → r ≡ length (sealed suite (keyed terms (now (keyid .entry)) (now (source .entry)) key) seqnum (now (payload .entry)))) ⌝ }
     ensures { λ r. ⌜ ((key : List ℕ) → keyWords key ≡ now (base .entry) → now (out .exit) ≡ put (now (out .entry)) 0 (sealed suite (keyed terms (now (keyid .entry)) (now (source .entry)) key) seqnum (now (payload .entry)))) ⌝ }
 {
+    let edition = terms.edition;
     let subkeys = modes::subkeys_of(base);
     header::write_header(terms.flag, suite, keyid, seqnum, out);
     let start = header::FIXED + keyid.len();
@@ -65,22 +66,15 @@ pub fn seal_under(
         base,
         subkeys,
         suite,
-        terms.edition,
+        edition,
         source,
         seqnum,
         payload,
         out,
         start,
     );
-    let icv = icv(
-        base,
-        subkeys,
-        suite,
-        terms.edition,
-        source,
-        seqnum,
-        &out[..end],
-    );
+    let front = &out[..end];
+    let icv = icv(base, subkeys, suite, edition, source, seqnum, front);
     octets::write(out, end, suite.icv_length(), icv);
     end + suite.icv_length()
 }
@@ -104,15 +98,9 @@ pub fn open(
     let keyid = header.keyid;
     let start = header::FIXED + keyid.length();
     let end = message.len() - suite.icv_length();
-    let icv = icv(
-        &base,
-        subkeys,
-        suite,
-        edition,
-        source,
-        header.seqnum,
-        &message[..end],
-    );
+    let seqnum = header.seqnum;
+    let front = &message[..end];
+    let icv = icv(&base, subkeys, suite, edition, source, seqnum, front);
     if octets::read(message, end, suite.icv_length()) != icv {
         return Opened::Wrong;
     }
@@ -122,7 +110,7 @@ pub fn open(
         suite,
         edition,
         source,
-        header.seqnum,
+        seqnum,
         &message[start..end],
         out,
         0,
