@@ -34,11 +34,12 @@ extern "C" {
 /* The version of the two layouts, the table's and the record's, raised where a place moves or gets another meaning. Keep it beside a saved table or
  * record: another layout's bytes are read as something else.
  *
- * Versions 1 and 2 of the interface saved layout 1. Its places are the same, but where layout 2 has an edition it has 0, so each entry and each
- * record of it is refused with 7. All of them followed the rule of edition 2. A table of layout 1 becomes one of layout 2 by putting 2 into byte 3 of
- * each slot whose byte 0 is not 0 (a slot has CRISP_TABLE / CRISP_SLOTS bytes), and a record by putting 2 into its edition; examples/kept.c among the
- * sources does so. What version 1 saved has start 0 in every entry. Back to version 1 or 2 a table or a record must not go once there is edition 1 in
- * it, which they read as 2; nor to version 1 a table once an entry of it has another start, which that version does not look at. */
+ * Versions 1 and 2 of the interface saved layout 1. Its places are the same, but where layout 2 has an edition, a table of it has 0, so each entry is
+ * refused with 7, and a record 0 too or, where it was not zeroed when it was made, any byte. All of them followed the rule of edition 2. A table of
+ * layout 1 becomes one of layout 2 by putting 2 into byte 3 of each slot whose byte 0 is not 0 (a slot has CRISP_TABLE / CRISP_SLOTS bytes), and a
+ * record by putting 2 into its edition, before it is used; examples/kept.c among the sources does so. What version 1 saved has start 0 in every entry.
+ * Back to version 1 or 2 a table or a record must not go once there is edition 1 in it, which they read as 2; nor to version 1 a table once an entry of
+ * it has another start, which that version does not look at. */
 #define CRISP_LAYOUT 2
 
 /* Bytes of a table, and its slots. A table of zeros is an empty one. It may be kept and saved as it is (see "Keys" below). Any bytes are safe to
