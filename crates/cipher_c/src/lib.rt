@@ -9,6 +9,7 @@ ghost use Rattle.magma.specs.Magma.{encrypted};
 ghost use Rattle.modes.specs.Modes.{magmaCheck, magmaCounter};
 ghost use Rattle.derivation.specs.Derivation.{keyFrom};
 ghost use Rattle.format.specs.declared.suite.Suite.the-variants.{MagmaCtr, MagmaNull};
+use derivation::Purpose;
 use format::key_data;
 use format::suite::Suite;
 
@@ -74,25 +75,14 @@ pub extern "C" fn cipher_keys_1(
     ensures { λ r. ⌜ r .cipher ≡ keyFrom (now (base .entry)) MagmaCtr edition (now (source .entry)) seqnum 5 ⌝ }
 {
     let subkeys = modes::subkeys_of(base);
+    let purpose = Purpose {
+        suite: Suite::MagmaCtr,
+        edition,
+        seqnum,
+    };
     BothKeys {
-        check: derivation::derived_key(
-            base,
-            subkeys,
-            Suite::MagmaCtr,
-            edition,
-            source,
-            seqnum,
-            derivation::CHECK,
-        ),
-        cipher: derivation::derived_key(
-            base,
-            subkeys,
-            Suite::MagmaCtr,
-            edition,
-            source,
-            seqnum,
-            derivation::CIPHER,
-        ),
+        check: derivation::derived_key(base, subkeys, purpose, source, derivation::CHECK),
+        cipher: derivation::derived_key(base, subkeys, purpose, source, derivation::CIPHER),
     }
 }
 
@@ -102,15 +92,12 @@ pub extern "C" fn cipher_key_2(base: &[u32; 8], source: &[u8; 12], seqnum: u64) 
     ensures { λ r. ⌜ r .check ≡ keyFrom (now (base .entry)) MagmaNull 2 (now (source .entry)) seqnum 1 ⌝ }
 {
     let subkeys = modes::subkeys_of(base);
+    let purpose = Purpose {
+        suite: Suite::MagmaNull,
+        edition: key_data::MSB,
+        seqnum,
+    };
     CheckKey {
-        check: derivation::derived_key(
-            base,
-            subkeys,
-            Suite::MagmaNull,
-            key_data::MSB,
-            source,
-            seqnum,
-            derivation::CHECK,
-        ),
+        check: derivation::derived_key(base, subkeys, purpose, source, derivation::CHECK),
     }
 }

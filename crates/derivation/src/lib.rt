@@ -11,6 +11,13 @@ use format::key_data;
 use format::suite::Suite;
 use modes::Subkeys;
 
+// What a key is derived for: the suite, the edition and the number of a message.
+pub struct Purpose {
+    pub suite: Suite,
+    pub edition: u8,
+    pub seqnum: u64,
+}
+
 // The blocks that make the check key and the cipher key start at these numbers; a key has four.
 pub const CHECK: u8 = 1;
 
@@ -23,29 +30,28 @@ const LONGEST: usize = 50;
 pub fn derived_key(
     base: &[u32; 8],
     subkeys: Subkeys,
-    suite: Suite,
-    edition: u8,
+    purpose: Purpose,
     source: &[u8],
-    seqnum: u64,
     first: u8,
 ) -> [u32; 8]
     requires { ⌜ (subkeys .first ≡ firstSubkey 8 0x1b (encrypted (now base))) × (subkeys .second ≡ secondSubkey 8 0x1b (encrypted (now base))) × (length (now source) ≤ 32) × (first < 6) ⌝ }
-    ensures { λ r. ⌜ r ≡ keyFrom (now (base .entry)) suite edition (now (source .entry)) seqnum first ⌝ }
+    ensures { λ r. ⌜ r ≡ keyFrom (now (base .entry)) (purpose .suite) (purpose .edition) (now (source .entry)) (purpose .seqnum) first ⌝ }
 {
     let mut data = [0u8; LONGEST];
-    write_data(suite, edition, source, seqnum, &mut data);
+    write_data(purpose, source, &mut data);
     key_of_blocks(base, subkeys, &mut data[..18 + source.len()], first)
 }
 
 // The data of a block, but for its number in the first byte.
-fn write_data(suite: Suite, edition: u8, source: &[u8], seqnum: u64, out: &mut [u8])
+fn write_data(purpose: Purpose, source: &[u8], out: &mut [u8])
     requires { ⌜ (length (now source) ≤ 32) × (18 + length (now source) ≤ length (now out)) ⌝ }
-    ensures { λ _. ⌜ now (out .exit) ≡ put (now (out .entry)) 1 (dataAfter suite edition (now (source .entry)) seqnum) ⌝ }
+    ensures { λ _. ⌜ now (out .exit) ≡ put (now (out .entry)) 1 (dataAfter (purpose .suite) (purpose .edition) (now (source .entry)) (purpose .seqnum)) ⌝ }
 {
+    let suite = purpose.suite;
     let label = suite.label();
     octets::copy(&label, out, 1);
     octets::write(out, 7, 1, 6);
-    octets::write(out, 8, 5, serial(edition, seqnum));
+    octets::write(out, 8, 5, serial(purpose.edition, purpose.seqnum));
     octets::copy(source, out, 13);
     let at = 13 + source.len();
     octets::write(out, at, 1, suite.number() as u64);

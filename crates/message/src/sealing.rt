@@ -11,6 +11,7 @@ ghost use Rattle.format.specs.KeyData.{keyed};
 ghost use Rattle.message.specs.Sealing.{enciphered, icvOf, sealed, openedAs, outputAfter};
 ghost use Rattle.format.specs.declared.header.Parsed.the-variants.{Read};
 ghost use Rattle.format.specs.Suite.{icvLengthOf};
+use derivation::Purpose;
 use format::header;
 use format::header::Header;
 use format::key_data::Terms;
@@ -57,24 +58,17 @@ pub fn seal_under(
     ensures { λ r. ⌜ ((key : List ℕ) → keyWords key ≡ now (base .entry) → r ≡ length (sealed suite (keyed terms (now (keyid .entry)) (now (source .entry)) key) seqnum (now (payload .entry)))) ⌝ }
     ensures { λ r. ⌜ ((key : List ℕ) → keyWords key ≡ now (base .entry) → now (out .exit) ≡ put (now (out .entry)) 0 (sealed suite (keyed terms (now (keyid .entry)) (now (source .entry)) key) seqnum (now (payload .entry)))) ⌝ }
 {
-    let edition = terms.edition;
+    let purpose = Purpose {
+        suite,
+        edition: terms.edition,
+        seqnum,
+    };
     let subkeys = modes::subkeys_of(base);
     header::write_header(terms.flag, suite, keyid, seqnum, out);
     let start = header::FIXED + keyid.len();
     let end = start + payload.len();
-    encipher(
-        base,
-        subkeys,
-        suite,
-        edition,
-        source,
-        seqnum,
-        payload,
-        out,
-        start,
-    );
-    let front = &out[..end];
-    let icv = icv(base, subkeys, suite, edition, source, seqnum, front);
+    encipher(base, subkeys, purpose, source, payload, out, start);
+    let icv = icv(base, subkeys, purpose, source, &out[..end]);
     octets::write(out, end, suite.icv_length(), icv);
     end + suite.icv_length()
 }
@@ -98,19 +92,20 @@ pub fn open(
     let keyid = header.keyid;
     let start = header::FIXED + keyid.length();
     let end = message.len() - suite.icv_length();
-    let seqnum = header.seqnum;
-    let front = &message[..end];
-    let icv = icv(&base, subkeys, suite, edition, source, seqnum, front);
+    let purpose = Purpose {
+        suite,
+        edition,
+        seqnum: header.seqnum,
+    };
+    let icv = icv(&base, subkeys, purpose, source, &message[..end]);
     if octets::read(message, end, suite.icv_length()) != icv {
         return Opened::Wrong;
     }
     encipher(
         &base,
         subkeys,
-        suite,
-        edition,
+        purpose,
         source,
-        seqnum,
         &message[start..end],
         out,
         0,
@@ -119,27 +114,12 @@ pub fn open(
 }
 
 // The ICV of all that stands before it, as a number.
-fn icv(
-    base: &[u32; 8],
-    subkeys: Subkeys,
-    suite: Suite,
-    edition: u8,
-    source: &[u8],
-    seqnum: u64,
-    front: &[u8],
-) -> u64
+fn icv(base: &[u32; 8], subkeys: Subkeys, purpose: Purpose, source: &[u8], front: &[u8]) -> u64
     requires { ⌜ (subkeys .first ≡ firstSubkey 8 0x1b (encrypted (now base))) × (subkeys .second ≡ secondSubkey 8 0x1b (encrypted (now base))) × (length (now source) ≤ 32) ⌝ }
-    ensures { λ r. ⌜ r ≡ icvOf suite edition (now (base .entry)) (now (source .entry)) seqnum (now (front .entry)) ⌝ }
+    ensures { λ r. ⌜ r ≡ icvOf (purpose .suite) (purpose .edition) (now (base .entry)) (now (source .entry)) (purpose .seqnum) (now (front .entry)) ⌝ }
 {
-    let key = derivation::derived_key(
-        base,
-        subkeys,
-        suite,
-        edition,
-        source,
-        seqnum,
-        derivation::CHECK,
-    );
+    let suite = purpose.suite;
+    let key = derivation::derived_key(base, subkeys, purpose, source, derivation::CHECK);
     modes::check_value(&key, front) >> (8 * (8 - suite.icv_length() as u64))
 }
 
@@ -147,28 +127,20 @@ fn icv(
 fn encipher(
     base: &[u32; 8],
     subkeys: Subkeys,
-    suite: Suite,
-    edition: u8,
+    purpose: Purpose,
     source: &[u8],
-    seqnum: u64,
     payload: &[u8],
     out: &mut [u8],
     at: usize,
 )
     requires { ⌜ (subkeys .first ≡ firstSubkey 8 0x1b (encrypted (now base))) × (subkeys .second ≡ secondSubkey 8 0x1b (encrypted (now base))) × (length (now source) ≤ 32) × (at + length (now payload) ≤ length (now out)) × (length (now payload) ≤ 2 ^ 35) ⌝ }
-    ensures { λ _. ⌜ now (out .exit) ≡ put (now (out .entry)) at (enciphered suite edition (now (base .entry)) (now (source .entry)) seqnum (now (payload .entry))) ⌝ }
+    ensures { λ _. ⌜ now (out .exit) ≡ put (now (out .entry)) at (enciphered (purpose .suite) (purpose .edition) (now (base .entry)) (now (source .entry)) (purpose .seqnum) (now (payload .entry))) ⌝ }
 {
+    let suite = purpose.suite;
     if suite.enciphers() {
-        let key = derivation::derived_key(
-            base,
-            subkeys,
-            suite,
-            edition,
-            source,
-            seqnum,
-            derivation::CIPHER,
-        );
-        modes::counter(&key, (seqnum % 4294967296) as u32, payload, out, at);
+        let key = derivation::derived_key(base, subkeys, purpose, source, derivation::CIPHER);
+        let iv = (purpose.seqnum % 4294967296) as u32;
+        modes::counter(&key, iv, payload, out, at);
     } else {
         octets::copy(payload, out, at);
     }

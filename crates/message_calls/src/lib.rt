@@ -1,5 +1,6 @@
 // What a script's commands do with derived keys and whole messages, under a key and a source. Where the operands are such that there is no message or
 // payload, a function answers the length of the longest message, which is that of the output.
+use derivation::Purpose;
 use format::header;
 use format::header::GREATEST;
 use format::header::Parsed;
@@ -30,10 +31,13 @@ pub fn derived_block(command: usize, operands: &[u8]) -> u64 {
     };
     let base = key(operands);
     let subkeys = modes::subkeys_of(&base);
-    let edition = script::byte(operands, 3);
-    let seqnum = script::number(operands, 4);
+    let purpose = Purpose {
+        suite,
+        edition: script::byte(operands, 3),
+        seqnum: script::number(operands, 4),
+    };
     let first = script::byte(operands, 5) % 6;
-    let key = derivation::derived_key(&base, subkeys, suite, edition, source, seqnum, first);
+    let key = derivation::derived_key(&base, subkeys, purpose, source, first);
     match command {
         12 => pair(key[2], key[3]),
         _ => pair(key[0], key[1]),

@@ -13,17 +13,17 @@ use Rattle.derivation.proofs.derived_key.Tie as tie
 -- the data as it is lent
 front : (c : tie.After-data3)
     → let a = c .before .before .before .before .before .args in
-    take (18 + length (a .source .now)) (c .before .before .write-data .last .1 .1 .1 .1 .0) ≡ 0 ∷ dataAfter (a .suite) (a .edition) (a .source .now) (a .seqnum)
+    take (18 + length (a .source .now)) (c .before .before .write-data .last .1 .1 .0) ≡ 0 ∷ dataAfter (a .purpose .suite) (a .purpose .edition) (a .source .now) (a .purpose .seqnum)
 front c =
     let a = c .before .before .before .before .before .args in
-    data-front (a .suite) (a .edition) (a .source .now) (a .seqnum) (replicate 50 0) (search needs) (c .before .before .write-data .ensures)
+    data-front (a .purpose .suite) (a .purpose .edition) (a .source .now) (a .purpose .seqnum) (replicate 50 0) (search needs) (c .before .before .write-data .ensures)
 
 lent : (c : tie.After-data3)
     → let a = c .before .before .before .before .before .args in
-    length (take (18 + length (a .source .now)) (c .before .before .write-data .last .1 .1 .1 .1 .0)) ≡ 18 + length (a .source .now)
+    length (take (18 + length (a .source .now)) (c .before .before .write-data .last .1 .1 .0)) ≡ 18 + length (a .source .now)
 lent c =
     let a = c .before .before .before .before .before .args in
-    omega (arith, ap length (front c), data-length (a .suite) (a .edition) (a .source .now) (a .seqnum))
+    omega (arith, ap length (front c), data-length (a .purpose .suite) (a .purpose .edition) (a .source .now) (a .purpose .seqnum))
 
 returns : tie.Need-returns
 returns c =

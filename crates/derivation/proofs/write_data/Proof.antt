@@ -34,8 +34,8 @@ returns c =
     let second = third .before .before .before .before .before in
     let first = second .before .before .before .before in
     let start = first .before .before .before .before .before .before in
-    let label : first .before .before .before .label .result ≡ labelOf (start .args .suite) = first .before .before .before .label .ensures in
-    data-written (start .args .suite) (start .args .edition) (start .args .source .now) (start .args .seqnum) (start .args .out .now) (omega (arith, start .pre .1))
+    let label : first .before .before .before .label .result ≡ labelOf (start .args .purpose .suite) = first .before .before .before .label .ensures in
+    data-written (start .args .purpose .suite) (start .args .purpose .edition) (start .args .source .now) (start .args .purpose .seqnum) (start .args .out .now) (omega (arith, start .pre .1))
     (rw label at (first .copy .ensures)) (second .write .ensures) (rw (third .before .serial .ensures) at (third .write2 .ensures)) (fourth .copy2 .ensures)
     (rw (fifth .before .number .ensures) at (fifth .write3 .ensures)) (sixth .write4 .ensures)
     (rw (seventh .before .output-bits .ensures) at (seventh .write5 .ensures))

@@ -11,16 +11,16 @@ use Rattle.message.proofs.sealing.encipher.Tie as tie
 returns : tie.Need-returns
 unfolding enciphered
 returns c =
-    let key = c .before .before .before .before .before in
+    let key = c .before .before .before .before .before .before in
     let test = key .before in
-    let on : enciphers (test .before .before .before .before .before .args .suite) ≡ true = sym (test .before .enciphers .ensures) ∙ test .if1 .taken in
+    let on : enciphers (test .before .before .before .before .before .args .purpose .suite) ≡ true = sym (test .before .enciphers .ensures) ∙ test .if1 .taken in
     rw (c .before .before .counter .ensures, key .derived-key .ensures, on)
 
 returns-2 : tie.Need-returns-2
 unfolding enciphered
 returns-2 c =
     let test = c .before .before .before .before in
-    let off : enciphers (test .before .before .before .before .before .args .suite) ≡ false = sym (test .before .enciphers .ensures) ∙ test .if1 .left in
+    let off : enciphers (test .before .before .before .before .before .args .purpose .suite) ≡ false = sym (test .before .enciphers .ensures) ∙ test .if1 .left in
     rw (c .before .before .copy .ensures, off)
 
 pub encipher-spec : {M : Type 1} → statement M

@@ -8,7 +8,7 @@ use Rattle.message.proofs.sealing.icv.Statement.{statement}
 use Rattle.message.proofs.sealing.icv.Tie as tie
 
 short : (c : tie.After-icv-length) → c .icv-length .result ≡ 4
-short c = c .icv-length .ensures ∙ icv-four (c .before .before .before .before .before .before .args .suite)
+short c = c .icv-length .ensures ∙ icv-four (c .before .before .before .before .before .before .args .purpose .suite)
 
 returns : tie.Need-returns
 unfolding icvOf

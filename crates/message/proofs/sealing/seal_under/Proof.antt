@@ -16,19 +16,19 @@ use Rattle.message.proofs.sealing.seal_under.Statement.{statement}
 use Rattle.message.proofs.sealing.seal_under.Tie as tie
 
 -- where the ICV is asked for: the header was written before
-abbrev headed : tie.After-front → tie.After-write-header
+abbrev headed : tie.After-icv-arg → tie.After-write-header
 headed c = c .before .before .before .before .before .before .before
 
-abbrev start : tie.After-front → tie.Start
+abbrev start : tie.After-icv-arg → tie.Start
 start c = headed c .before .before .before .before .before .before .before
 
 abbrev keys : tie.Start → List ℕ → KeyData
 keys s key = let a = s .args in keyed (a .terms) (a .keyid .now) (a .source .now) key
 
 -- the output as the ICV finds it, for a key with these words
-written : (c : tie.After-front) (key : List ℕ) → keyWords key ≡ start c .args .base .now
+written : (c : tie.After-icv-arg) (key : List ℕ) → keyWords key ≡ start c .args .base .now
     → let a = start c .args in
-    c .before .before .before .encipher .last .1 .1 .1 .1 .1 .1 .1 .0
+    c .before .before .before .encipher .last .1 .1 .1 .1 .1 .0
     ≡ put (a .out .now) 0 (frontOf (a .suite) (keys (start c) key) (a .seqnum) (a .payload .now))
 written c key words =
     let a = start c .args in
