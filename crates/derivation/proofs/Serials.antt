@@ -1,4 +1,5 @@
--- Which numbers share SN and IV, and so derived keys and gamma: in edition 2 none, in edition 1 those that are multiples of 2^35 apart.
+-- Which numbers share both SN and IV, and so derived keys and gamma: in edition 2 none; in edition 1 a number and each that is a multiple of 2^35
+-- above it, and none that are nearer than 2^35.
 -- Assumes nothing.
 use mathlib.Core.Path.{_≡_}
 use Prim.Native.Nat.{ℕ, _+_, _*_, _^_, _≤_, _<_}
