@@ -1,5 +1,5 @@
-/* crisp.h: the receiver and the sender for the metering messages of a heat network (R 1323565.1.029-2019, suites 1 and 2), for C and C++ on
- * x86-64.
+/* crisp.h: the receiver and the sender for the metering messages of a heat network (R 1323565.1.029-2019: its suites 1 and 2, and two of the house,
+ * 241 and 242, with a longer check value), for C and C++ on x86-64.
  *
  * `./install PREFIX` builds libcrisp_c.a and puts it below PREFIX with this header and a pkg-config file, `crisp`. The seven functions are proved;
  * what each answers, what it leaves in the table or the record, and every byte of a buffer it was lent are those of one definition of its inputs
@@ -29,7 +29,7 @@ extern "C" {
 
 /* The interface's version, 100 times the major one plus the minor one: the first is raised where a call of before has to be written anew or means
  * something else, the second where something was added. */
-#define CRISP_VERSION 300
+#define CRISP_VERSION 301
 
 /* The version of the two layouts, the table's and the record's, raised where a place moves or gets another meaning. Keep it beside a saved table or
  * record: another layout's bytes are read as something else.
@@ -39,7 +39,10 @@ extern "C" {
  * layout 1 becomes one of layout 2 by putting 2 into byte 3 of each slot whose byte 0 is not 0 (a slot has CRISP_TABLE / CRISP_SLOTS bytes), and a
  * record by putting 2 into its edition, before it is used; examples/kept.c among the sources does so. What version 1 saved has start 0 in every entry.
  * Back to version 1 or 2 a table or a record must not go once there is edition 1 in it, which they read as 2; nor to version 1 a table once an entry of
- * it has another start, which that version does not look at. */
+ * it has another start, which that version does not look at.
+ *
+ * Suites 241 and 242 came with version 3.1 and moved nothing. Back in version 3.0 or earlier they are unsound: an entry or a record with one of them is
+ * refused there with 7, and a message of theirs with 4. */
 #define CRISP_LAYOUT 2
 
 /* Bytes of a table, and its slots. A table of zeros is an empty one. It may be kept and saved as it is (see "Keys" below). Any bytes are safe to
@@ -53,12 +56,28 @@ extern "C" {
 /* Room that crisp_receive, crisp_protect and crisp_listing ask of an output: as much as the longest message has. */
 #define CRISP_OUT 2048
 
-/* Bytes: the longest KeyId and source, a key, and the longest payload: with a KeyId of one byte, and with one of keyid_len bytes. */
+/* The suites. A message ends with its check value, of four bytes in the first two and of eight in the long ones; in all else 241 is as 1, and 242 as 2.
+ *
+ * Which to take: a forged message passes by luck once in 2^32 tries where the check value has four bytes, and once in 2^64 where it has eight, as far as
+ * the cipher is a good one. A long one makes each message four bytes longer and costs no time. Sender and entry must have the same suite, for a message
+ * of another is refused (8): so nobody can pass off a message of a long suite as one with a short check value, which would be easier to guess. */
+#define CRISP_MAGMA_CTR 1               /* MAGMA-CTR-CMAC: the payload is enciphered */
+#define CRISP_MAGMA_NULL 2              /* MAGMA-NULL-CMAC: the payload stays in clear */
+#define CRISP_MAGMA_CTR_LONG 241        /* enciphered, with a check value of eight bytes */
+#define CRISP_MAGMA_NULL_LONG 242       /* in clear, with a check value of eight bytes */
+
+/* Bytes of the check value of one of these suites. */
+#define CRISP_ICV(suite) ((suite) < CRISP_MAGMA_CTR_LONG ? 4 : 8)
+
+/* Bytes: the longest KeyId and source, and a key. */
 #define CRISP_KEYID 128
 #define CRISP_SOURCE 32
 #define CRISP_KEY 32
+
+/* Bytes of the longest payload: of any; with a KeyId of keyid_len bytes in a suite; and with such a KeyId where the check value is a short one. */
 #define CRISP_PAYLOAD 2034
-#define CRISP_PAYLOAD_WITH(keyid_len) (2035 - (keyid_len))
+#define CRISP_PAYLOAD_OF(keyid_len, suite) (2039 - (keyid_len) - CRISP_ICV(suite))
+#define CRISP_PAYLOAD_WITH(keyid_len) CRISP_PAYLOAD_OF(keyid_len, CRISP_MAGMA_CTR)
 
 /* The largest window. */
 #define CRISP_SIZE 256
@@ -81,10 +100,10 @@ extern "C" {
 enum {
     CRISP_DONE = 0,
     CRISP_OUTPUT_SMALL = 1,     /* output under 2,048 bytes */
-    CRISP_BAD_LENGTH = 2,       /* message not 14 to 2,048 bytes; payload too long for a message */
+    CRISP_BAD_LENGTH = 2,       /* message not 14 to 2,048 bytes; payload over CRISP_PAYLOAD_OF its KeyId and suite */
     CRISP_BAD_VERSION = 3,      /* version not 0 */
-    CRISP_BAD_SUITE = 4,        /* suite not 1 or 2 */
-    CRISP_TOO_SHORT = 5,        /* message too short for its KeyId and its check value */
+    CRISP_BAD_SUITE = 4,        /* suite not 1, 2, 241 or 242 */
+    CRISP_TOO_SHORT = 5,        /* message too short for its KeyId and the check value of its suite */
     CRISP_NO_ENTRY = 6,         /* no slot matches */
     CRISP_DAMAGED = 7,          /* the entry's record is damaged; of a sender: unsound key data (edition 0 is), or a number over 2^48 - 1 */
     CRISP_OTHER_SUITE = 8,      /* suite not the entry's */
@@ -113,8 +132,8 @@ struct crisp_answer {
 /* A sender's record: key data, and the number of its last message. The first keyid_len and source_len bytes of the two arrays count. A new
  * sender starts with current 0.
  *
- * A number must not be used twice under one key. Of two messages with one number the receiver takes at most one; and in suite 1 both have the
- * same gamma, so whoever sees both has the exclusive or of their payloads, and with one payload the other. Therefore save the record after
+ * A number must not be used twice under one key. Of two messages with one number the receiver takes at most one; and in suites 1 and 241 both have
+ * the same gamma, so whoever sees both has the exclusive or of their payloads, and with one payload the other. Therefore save the record after
  * crisp_protect and before the message leaves, and let it not leave if the record was not saved; never go on from an older copy; and where the
  * record is lost, take a new key. Numbers that were saved and never sent do no harm. examples/kept.c among the sources does so.
  *
@@ -129,7 +148,7 @@ struct crisp_sender {
     size_t keyid_len;           /* 1 to 128, as the first byte of keyid asks: 00 to 80 one, 81 to ff that less 7f */
     uint8_t source[CRISP_SOURCE];
     size_t source_len;          /* 4 to 32 */
-    uint8_t suite;              /* 1: enciphered; 2: in clear */
+    uint8_t suite;              /* 1, 241: enciphered; 2, 242: in clear; 241 and 242 with a check value of eight bytes */
     uint8_t key[CRISP_KEY];
     uint8_t edition;            /* 2; with suite 1 also 1 */
     uint64_t current;
@@ -228,9 +247,9 @@ struct crisp_answer crisp_receive(uint8_t table[CRISP_AT_LEAST CRISP_TABLE], con
 
 /* Writes the next message for a payload. Done (0): the message stands at the start of the output, later bytes stay; length is the message's,
  * seqnum its number, which the record's current now is. Refuses with 1 (output under 2,048 bytes), 7 (unsound key data, also by an edition that was
- * not set, or current over 2^48 - 1), 2 (payload over 2,035 less keyid_len) and 12 (current is 2^48 - 1), in that order. Touches nothing of the
- * record but current, and writes that by every call, a refused one too, with the number that stood there: the record must not lie in memory that
- * cannot be written. The output must not be where the payload or the record is. Save the record before the message leaves, as is said at the
+ * not set, or current over 2^48 - 1), 2 (payload over CRISP_PAYLOAD_OF(keyid_len, suite)) and 12 (current is 2^48 - 1), in that order. Touches
+ * nothing of the record but current, and writes that by every call, a refused one too, with the number that stood there: the record must not lie in
+ * memory that cannot be written. The output must not be where the payload or the record is. Save the record before the message leaves, as is said at the
  * struct. */
 CRISP_CALL CRISP_READS(2, 3) CRISP_WRITES(4, 5)
 struct crisp_answer crisp_protect(struct crisp_sender *sender, const uint8_t *payload, size_t payload_len, uint8_t *out, size_t out_len);

@@ -5,6 +5,10 @@
 #endif
 #include "crisp.h"
 
+#if CRISP_PAYLOAD_OF(1, CRISP_MAGMA_NULL) != CRISP_PAYLOAD || CRISP_PAYLOAD_OF(1, CRISP_MAGMA_NULL_LONG) != CRISP_PAYLOAD - 4
+#error the longest payloads do not fit each other
+#endif
+
 #ifdef SHORT_TABLE
 static uint8_t table[CRISP_TABLE - 1];
 #else
@@ -16,7 +20,19 @@ static uint8_t table[CRISP_TABLE];
 #define SOURCE CRISP_NOTHING
 #endif
 static struct crisp_sender sender;
-static uint8_t message[CRISP_OUT], out[CRISP_OUT];
+static uint8_t message[CRISP_OUT], out[CRISP_OUT], payload[CRISP_PAYLOAD_WITH(1) + 1];
+
+/* the longest payload of a suite, as the sender's next message, and one byte more */
+static int longest(uint8_t suite)
+{
+    struct crisp_answer a;
+    size_t length = CRISP_PAYLOAD_OF(sender.keyid_len, suite);
+    sender.suite = suite;
+    a = crisp_protect(&sender, payload, length + 1, message, sizeof message);
+    if (a.reply != CRISP_BAD_LENGTH) return 1;
+    a = crisp_protect(&sender, payload, length, message, sizeof message);
+    return a.reply != CRISP_DONE || a.length != CRISP_OUT || 3 + sender.keyid_len + 6 + length + CRISP_ICV(suite) != a.length;
+}
 
 int main(void)
 {
@@ -25,7 +41,7 @@ int main(void)
     sender.keyid[0] = 5;
     sender.keyid_len = 1;
     sender.source_len = 4;
-    sender.suite = 1;
+    sender.suite = CRISP_MAGMA_CTR;
     a = crisp_protect(&sender, CRISP_NOTHING, 0, message, sizeof message);      /* its edition was not set */
     if (a.reply != CRISP_DAMAGED) return 10;
     sender.edition = 2;
@@ -47,6 +63,7 @@ int main(void)
     if (r.reply != CRISP_BAD_CAPTURE || r.source != r.next || r.message != r.next || r.next != sizeof message) return 7;
     r = crisp_capture_record(message, sizeof message, 1, CRISP_CAPTURE);
     if (r.reply != CRISP_END) return 8;
+    if (longest(CRISP_MAGMA_CTR) || longest(CRISP_MAGMA_NULL) || longest(CRISP_MAGMA_CTR_LONG) || longest(CRISP_MAGMA_NULL_LONG)) return 11;
 #ifdef IGNORED
     crisp_remove(table, a.slot);
 #else
