@@ -13,8 +13,13 @@
 
 enum { ENTRIES = 24, KEPT = 64, ROOM = 2304 };
 
-/* of a slot: its bytes, and where edition, Size and start stand in it */
-enum { SLOT = CRISP_TABLE / CRISP_SLOTS, EDITION = 3, SIZE = 198, START = 206 };
+/* of a slot: its bytes, and where suite, edition, Size and start stand in it */
+enum { SLOT = CRISP_TABLE / CRISP_SLOTS, SUITE = 2, EDITION = 3, SIZE = 198, START = 206 };
+
+/* a suite with these bits changed is the one that has the other length of check value: 1 and 241, 2 and 242 */
+enum { OTHER_LENGTH = 0xf0 };
+
+static int is_long(uint8_t suite) { return suite == CRISP_MAGMA_CTR_LONG || suite == CRISP_MAGMA_NULL_LONG; }
 
 /* ---- what was called, for the report */
 
@@ -54,6 +59,12 @@ static uint64_t by_start[STARTS];
 enum edition { KEPT_EDITION, REFUSED_EDITION, DAMAGED_EDITION, UNSENT_EDITION, OTHER_EDITION, EDITIONS };
 static const char *const edition_names[EDITIONS] = {"1 kept", "refused", "damaged", "not sent", "the other one's message"};
 static uint64_t by_edition[EDITIONS];
+
+/* what the long suites did: installed, handed out, sent; messages refused with 5, and payloads with 2, that a check value of four bytes would have left
+ * room for; messages refused with 8 because of the length of their check value alone; installs and senders refused for edition 1 alone */
+enum suite { LONG_KEPT, LONG_TAKEN, LONG_SENT, CUT_SHORT, TOO_LONG, NOT_ITS_LENGTH, LONG_EDITION, SUITES };
+static const char *const suite_names[SUITES] = {"long kept", "long taken", "long sent", "cut short", "payload too long", "other length", "edition 1"};
+static uint64_t by_suite[SUITES];
 
 static void differs(const char *what)
 {
@@ -96,6 +107,7 @@ static int keeps;
 static void make_senders(void)
 {
     static const uint8_t firsts[] = {0x05, 0x81, 0x80, 0x7f, 0x83, 0xff, 0x00, 0x90};
+    static const uint8_t suites[] = {CRISP_MAGMA_CTR, CRISP_MAGMA_NULL, CRISP_MAGMA_CTR_LONG, CRISP_MAGMA_NULL_LONG};
     static const uint64_t widths[] = {1, 2, 4, 63, 64, 65, 128, 255, 256};
     for (int i = 0; i < ENTRIES; i++) {
         struct crisp_sender *s = &senders[i];
@@ -107,7 +119,7 @@ static void make_senders(void)
         s->flag = s->keyid[0] == 0x80 ? 1 : (uint8_t)below(2);
         s->source_len = 4 + below(29);
         fill(s->source, s->source_len);
-        s->suite = (uint8_t)(1 + below(2));
+        s->suite = suites[below(4)];
         s->edition = s->suite == 1 ? (uint8_t)(1 + below(2)) : 2;
         fill(s->key, 32);
         s->current = below(4) ? below(8) : below(2) ? CRISP_LAST - below(6) : below(CRISP_LAST);
@@ -137,11 +149,14 @@ static void call_install(const struct crisp_sender *s, uint8_t edition, uint64_t
     if (start && !a.reply) by_start[KEPT_START]++;
     if (start > CRISP_LAST && a.reply == 13) by_start[REFUSED_START]++;
     if (edition == 1 && !a.reply) by_edition[KEPT_EDITION]++;
+    if (is_long(s->suite) && !a.reply) by_suite[LONG_KEPT]++;
     if (a.reply != 13) return;
     static uint8_t other[CRISP_TABLE];
     memcpy(other, ref_table, CRISP_TABLE);
     b = ref_install(other, s->flag, s->keyid, s->keyid_len, s->source, s->source_len, s->suite, 2, key, key_len, size, start);
-    if (b.reply != 13) by_edition[REFUSED_EDITION]++;
+    if (b.reply == 13) return;
+    by_edition[REFUSED_EDITION]++;
+    if (edition == 1 && is_long(s->suite)) by_suite[LONG_EDITION]++;
 }
 
 static void call_remove(size_t slot)
@@ -177,6 +192,18 @@ static void count_refused(uint64_t reply, const uint8_t *message, size_t n, cons
     if (reply == 11 && with[OTHER] == 0) by_edition[OTHER_EDITION]++;
 }
 
+/* so is one that another reply would have met as a message with the other length of check value */
+static void count_length(uint64_t reply, const uint8_t *message, size_t n, const uint8_t *source, size_t source_len)
+{
+    static uint8_t other[CRISP_TABLE], other_out[ROOM], bytes[2048];
+    memcpy(other, ref_table, CRISP_TABLE);
+    memcpy(bytes, message, n);
+    bytes[2] ^= OTHER_LENGTH;
+    uint64_t with = ref_receive(other, bytes, n, source, source_len, other_out, 2048).reply;
+    if (reply == 5 && with != 5) by_suite[CUT_SHORT]++;
+    if (reply == 8 && with != 8 && with != 5) by_suite[NOT_ITS_LENGTH]++;
+}
+
 static void call_receive(const uint8_t *message, size_t n, const uint8_t *source, size_t source_len, size_t room)
 {
     say("receive out=%zu", room);
@@ -186,6 +213,8 @@ static void call_receive(const uint8_t *message, size_t n, const uint8_t *source
     struct crisp_answer a = crisp_receive(table, message, n, source, source_len, out, room);
     agree(RECEIVE, a, ref_receive(ref_table, message, n, source, source_len, ref_out, room));
     if (a.reply == 7 || a.reply == 9 || a.reply == 11) count_refused(a.reply, message, n, source, source_len, room);
+    if (a.reply == 5 || a.reply == 8) count_length(a.reply, message, n, source, source_len);
+    if (a.reply == 0 && is_long(message[2])) by_suite[LONG_TAKEN]++;
 }
 
 static void call_listing(size_t slot, size_t room)
@@ -194,6 +223,20 @@ static void call_listing(size_t slot, size_t room)
     same_outputs();
     struct crisp_answer a = crisp_listing(table, slot, out, room);
     agree(LISTING, a, ref_listing(ref_table, slot, ref_out, room));
+}
+
+/* a sender that was refused is counted where edition 2, or the other length of check value, would have met another reply */
+static void count_unsent(uint64_t reply, const struct crisp_sender *s, const uint8_t *payload, size_t n, size_t room)
+{
+    static uint8_t other[ROOM];
+    struct crisp_sender second = *s, length = *s;
+    second.edition = 2;
+    length.suite ^= OTHER_LENGTH;
+    if (reply == 7 && ref_protect(&second, payload, n, other, room).reply != 7) {
+        by_edition[UNSENT_EDITION]++;
+        if (s->edition == 1 && is_long(s->suite)) by_suite[LONG_EDITION]++;
+    }
+    if (reply == 2 && ref_protect(&length, payload, n, other, room).reply == 0) by_suite[TOO_LONG]++;
 }
 
 static struct crisp_answer call_protect(struct crisp_sender *s, struct crisp_sender *r, const uint8_t *payload, size_t n, size_t room)
@@ -205,11 +248,8 @@ static struct crisp_answer call_protect(struct crisp_sender *s, struct crisp_sen
     struct crisp_answer b = ref_protect(r, payload, n, ref_out, room);
     if (memcmp(s, r, sizeof *s)) differs("the sender's record");
     agree(PROTECT, a, b);
-    if (a.reply != 7) return a;
-    static uint8_t other[ROOM];
-    struct crisp_sender second = *r;
-    second.edition = 2;
-    if (ref_protect(&second, payload, n, other, room).reply != 7) by_edition[UNSENT_EDITION]++;
+    if (a.reply == 0 && is_long(s->suite)) by_suite[LONG_SENT]++;
+    if (a.reply == 2 || a.reply == 7) count_unsent(a.reply, r, payload, n, room);
     return a;
 }
 
@@ -219,12 +259,16 @@ static void install(int i) { call_install(&senders[i], editions[i], sizes[i], st
 /* ---- random calls */
 
 static size_t some_room(void) { return below(16) ? 2048 : 2040 + below(17); }
-static uint8_t some_byte(void) { return (uint8_t)(below(2) ? below(4) : rnd()); }
+static uint8_t some_suite(void) { return (uint8_t)(below(2) ? below(4) : 240 + below(6)); }
+static uint8_t some_byte(void) { return below(2) ? some_suite() : (uint8_t)rnd(); }
+
+/* a payload's length: mostly a short one; else one about the longest, with this KeyId or with any */
+static size_t some_length(size_t keyid_len) { return below(8) ? below(40) : below(2) ? 1900 + below(149) : 2028 - keyid_len + below(10); }
 
 static void random_protect(int from, int likely)
 {
     static uint8_t payload[2048];
-    size_t n = below(8) ? below(40) : 1900 + below(149);
+    size_t n = some_length(senders[from].keyid_len);
     fill(payload, n);
     struct crisp_sender s = senders[from], r = ref_senders[from];
     if (!likely) {
@@ -251,7 +295,7 @@ static void random_install(void)
     size_t key_len = 32;
     switch (below(14)) {
     case 0: s.flag = (uint8_t)below(4); break;
-    case 1: s.suite = (uint8_t)below(4); break;
+    case 1: s.suite = some_suite(); break;
     case 2: s.keyid_len = below(129); break;
     case 3: s.source_len = below(33); break;
     case 4: size = below(3) ? 256 + below(2) : 0; break;
@@ -271,21 +315,24 @@ static void random_receive(void)
     size_t source_len = s->source_len;
     uint8_t source[32];
     memcpy(source, s->source, 32);
-    switch (below(10)) {
+    size_t least = 9 + s->keyid_len + below(12);                                /* about that of a message without a payload */
+    switch (below(12)) {
     case 0: m.bytes[below(m.length)] ^= (uint8_t)(1 << below(8)); break;        /* one bit */
     case 1: m.length = below(m.length + 1); break;                              /* cut */
-    case 2: m.bytes[2] = (uint8_t)below(4); break;                              /* another suite */
+    case 2: m.bytes[2] = some_suite(); break;                                   /* another suite */
     case 3: m.bytes[below(2)] ^= (uint8_t)(1 << below(8)); break;               /* version or flag */
     case 4: source_len = below(33); break;
     case 5: fill(m.bytes + 3 + s->keyid_len, 6); break;                         /* another number */
+    case 6: m.bytes[2] ^= OTHER_LENGTH; break;
+    case 7: if (m.length > least) m.length = least; break;
     }
     call_receive(m.bytes, m.length, source, source_len, some_room());
 }
 
 static void random_damage(void)
 {
-    size_t at = below(4) ? SLOT * below(16) + below(SLOT) : SLOT * below(3) + (below(3) ? SIZE + below(72) : EDITION);
-    uint8_t x = below(2) ? some_byte() : (uint8_t)(table[at] ^ 1 << below(8));
+    size_t at = below(4) ? SLOT * below(16) + below(SLOT) : SLOT * below(3) + (below(3) ? SIZE + below(72) : SUITE + below(2));
+    uint8_t x = below(2) ? some_byte() : (uint8_t)(table[at] ^ (below(4) ? 1 << below(8) : OTHER_LENGTH));
     say("byte %zu of the table becomes %02x\n", at, x);
     table[at] = ref_table[at] = x;
 }
@@ -381,9 +428,9 @@ static void sweep_room(int i, const uint8_t *payload, size_t n)
 static void sweep_damage(int i)
 {
     for (size_t at = 0; at < SLOT; at++)
-        for (int v = 0; v < 4; v++) {
+        for (int v = 0; v < 5; v++) {
             back();
-            table[at] = ref_table[at] = (uint8_t)(v == 0 ? 0 : v == 1 ? 255 : v == 2 ? saved[at] + 1 : saved[at] ^ 0x80);
+            table[at] = ref_table[at] = (uint8_t)(v == 0 ? 0 : v == 1 ? 255 : v == 2 ? saved[at] + 1 : saved[at] ^ (v == 3 ? 0x80 : OTHER_LENGTH));
             say("byte %zu becomes %02x\n", at, table[at]);
             arrives(i, swept_length, senders[i].source_len, 2048);
             call_listing(0, 2048);
@@ -410,36 +457,43 @@ static void sweep(int i, size_t n)
     if (next_message(i, payload, n)) sweep_damage(i);
 }
 
-static void sweep_payloads(void)
+static void sweep_payloads(int i)
 {
     static uint8_t data[2100];
     fill(data, sizeof data);
-    for (int i = 0; i < 6; i++) {
-        clear_tables();
-        install(i);
-        for (size_t n = 0; n <= 2100; n += n > 40 && n < 1880 ? 37 : 1) {
-            traced = 0;
-            struct crisp_answer a = call_protect(&senders[i], &ref_senders[i], data, n, 2048);
-            if (a.reply) continue;
-            uint8_t bytes[2048];
-            memcpy(bytes, out, a.length);
-            call_receive(bytes, a.length, senders[i].source, senders[i].source_len, 2048);
-        }
+    clear_tables();
+    install(i);
+    for (size_t n = 0; n <= 2100; n += n > 40 && n < 1880 ? 37 : 1) {
+        traced = 0;
+        struct crisp_answer a = call_protect(&senders[i], &ref_senders[i], data, n, 2048);
+        if (a.reply) continue;
+        uint8_t bytes[2048];
+        memcpy(bytes, out, a.length);
+        call_receive(bytes, a.length, senders[i].source, senders[i].source_len, 2048);
     }
 }
 
-/* the senders for the sweeps: current 5, start 0, 6 and 5, and of each suite each edition, with a start and without */
+/* the senders for the sweeps: current 5, start 0 to 6, and of each suite each edition, with a start and without. The long suites have a KeyId of one, of
+ * two and of 128 bytes: senders 8, 9 and 13 are of suite 241, and 16, 17 and 21 of suite 242. */
 static void make_swept(void)
 {
     static const uint8_t suites[] = {1, 1, 2, 1}, in_editions[] = {1, 2, 2, 1};
     make_senders();
-    for (int i = 0; i < 8; i++) {
+    for (int i = 0; i < ENTRIES; i++) {
         senders[i].current = 5;
-        senders[i].suite = suites[i / 2];
-        senders[i].edition = editions[i] = in_editions[i / 2];
+        senders[i].suite = i < 8 ? suites[i / 2] : i < 16 ? CRISP_MAGMA_CTR_LONG : CRISP_MAGMA_NULL_LONG;
+        senders[i].edition = editions[i] = i < 8 ? in_editions[i / 2] : 2;
         starts[i] = i % 2 ? 6 - (uint64_t)i / 4 : 0;
     }
     memcpy(ref_senders, senders, sizeof senders);
+}
+
+static void sweep_all(void)
+{
+    static const int first[] = {0, 1, 2, 3, 4, 5, 6, 7, 8, 9, 13, 16, 17, 21}, second[] = {0, 1, 2, 3, 4, 5, 8, 9, 13, 16, 17, 21};
+    make_swept();
+    for (size_t k = 0; k < sizeof first / sizeof *first; k++) sweep(first[k], 7 * (size_t)(first[k] % 8));
+    for (size_t k = 0; k < sizeof second / sizeof *second; k++) sweep_payloads(second[k]);
 }
 
 /* one line of counts; answers how many are 0 */
@@ -459,9 +513,7 @@ int main(int argc, char **argv)
 {
     uint64_t sequences = argc > 1 ? strtoull(argv[1], NULL, 0) : 100000, seed = argc > 2 ? strtoull(argv[2], NULL, 0) : 1;
     random_state = seed;
-    make_swept();
-    for (int i = 0; i < 8; i++) sweep(i, 7 * (size_t)i);
-    sweep_payloads();
+    sweep_all();
     uint64_t swept = compared;
     for (uint64_t i = 0; i < sequences; i++) random_sequence(seed << 32 | i);
     int missing = 0;
@@ -476,7 +528,8 @@ int main(int argc, char **argv)
         for (int c = 0; c < CALLS; c++) n += replies[c][r];
         if (!n) printf("reply %d was never given\n", r), missing++;
     }
-    missing += print_counts("start", start_names, by_start, STARTS) + print_counts("edition", edition_names, by_edition, EDITIONS);
+    missing += print_counts("start", start_names, by_start, STARTS) + print_counts("edition", edition_names, by_edition, EDITIONS)
+             + print_counts("suite", suite_names, by_suite, SUITES);
     printf("compare: %llu calls in sweeps and %llu in %llu random sequences, no difference\n", (unsigned long long)swept,
            (unsigned long long)(compared - swept), (unsigned long long)sequences);
     return missing ? 1 : 0;

@@ -13,14 +13,14 @@ static answer done(size_t length, size_t slot, u64 seqnum) { return (answer){0, 
 
 /* ---- big-endian numbers */
 
-static u64 get(const u8 *p, int n)
+static u64 get(const u8 *p, size_t n)
 {
     u64 x = 0;
     while (n--) x = x << 8 | *p++;
     return x;
 }
 
-static void set(u8 *p, int n, u64 x)
+static void set(u8 *p, size_t n, u64 x)
 {
     while (n--) p[n] = (u8)x, x >>= 8;
 }
@@ -97,6 +97,15 @@ void ref_counter(const u32 key[8], u32 iv, const u8 *bytes, size_t n, u8 *out)
     }
 }
 
+/* ---- suites: R 1323565.1.029-2019, 7, and document 02, No. 5: 241 is suite 1 and 242 is suite 2, with an ICV of 8 bytes and their own number as CS */
+
+static int listed(int suite) { return suite == 1 || suite == 2 || suite == 241 || suite == 242; }
+static int enciphers(int suite) { return suite == 1 || suite == 241; }
+static size_t icv_length(int suite) { return suite == 241 || suite == 242 ? 8 : 4; }
+
+/* document 02, No. 5: the check value has 64 bits, and a caller takes the leading bytes that it needs */
+static u64 leading(u64 value, size_t bytes) { return value >> (64 - 8 * bytes); }
+
 /* ---- derived keys: R 1323565.1.029-2019, 6.4, with SN as the scope has it, and in edition 1 as document 02, No. 4, has it */
 
 static u64 serial(int edition, u64 seqnum) { return edition == 1 ? seqnum & 0x7ffffffff : seqnum >> 13; }
@@ -105,13 +114,13 @@ static void derive(const u32 base[8], struct subkeys sub, int suite, int edition
 {
     u8 data[64];
     size_t n = 1;
-    memcpy(data + n, suite == 1 ? "macenc" : "macmac", 6), n += 6;
+    memcpy(data + n, enciphers(suite) ? "macenc" : "macmac", 6), n += 6;
     data[n++] = 6;
     set(data + n, 5, serial(edition, seqnum)), n += 5;
     memcpy(data + n, source, source_len), n += source_len;
     data[n++] = (u8)suite;
     set(data + n, 2, 6 + source_len), n += 2;
-    set(data + n, 2, suite == 1 ? 512 : 256), n += 2;
+    set(data + n, 2, enciphers(suite) ? 512 : 256), n += 2;
     for (int i = 0; i < 4; i++) {
         data[0] = (u8)(first + i);
         u64 block = check_under(base, sub, data, n);
@@ -124,22 +133,23 @@ void ref_keys(const u32 base[8], int suite, int edition, const u8 *source, size_
 {
     struct subkeys sub = subkeys(base);
     derive(base, sub, suite, edition, source, source_len, seqnum, 1, check);
-    if (suite == 1) derive(base, sub, suite, edition, source, source_len, seqnum, 5, cipher);
+    if (enciphers(suite)) derive(base, sub, suite, edition, source, source_len, seqnum, 5, cipher);
 }
 
-static u32 icv_of(const u32 base[8], struct subkeys sub, int suite, int edition, const u8 *source, size_t source_len, u64 seqnum, const u8 *bytes,
+/* the ICV of a message: as many bytes of the check value as its suite has */
+static u64 icv_of(const u32 base[8], struct subkeys sub, int suite, int edition, const u8 *source, size_t source_len, u64 seqnum, const u8 *bytes,
                   size_t n)
 {
     u32 key[8];
     derive(base, sub, suite, edition, source, source_len, seqnum, 1, key);
-    return (u32)(ref_check(key, bytes, n) >> 32);
+    return leading(ref_check(key, bytes, n), icv_length(suite));
 }
 
-/* suite 1 enciphers, suite 2 leaves the payload as it is */
+/* suites 1 and 241 encipher, suites 2 and 242 leave the payload as it is */
 static void encipher(const u32 base[8], struct subkeys sub, int suite, int edition, const u8 *source, size_t source_len, u64 seqnum, const u8 *bytes,
                      size_t n, u8 *out)
 {
-    if (suite == 1) {
+    if (enciphers(suite)) {
         u32 key[8];
         derive(base, sub, suite, edition, source, source_len, seqnum, 5, key);
         ref_counter(key, (u32)seqnum, bytes, n, out);
@@ -152,8 +162,8 @@ static void encipher(const u32 base[8], struct subkeys sub, int suite, int editi
 
 static size_t keyid_length(u8 first) { return first <= 0x80 ? 1 : (size_t)first - 0x7f; }
 
-/* document 02, No. 4: suite 1 has both editions, suite 2 the second alone */
-static int suite_and_edition(u8 suite, u8 edition) { return suite == 1 ? edition == 1 || edition == 2 : suite == 2 && edition == 2; }
+/* document 02, No. 4: edition 2 goes with each suite, edition 1 with suite 1 alone; No. 5 adds suites and leaves this */
+static int suite_and_edition(u8 suite, u8 edition) { return listed(suite) && (edition == 2 || (edition == 1 && suite == 1)); }
 
 static int sound(u8 flag, const u8 *keyid, size_t keyid_len, size_t source_len, u8 suite, u8 edition, size_t key_len)
 {
@@ -285,9 +295,9 @@ answer ref_receive(u8 *table, const u8 *m, size_t n, const u8 *source, size_t so
     if (n < 14 || n > 2048) return refuse(2);
     if (get(m, 2) & 0x7fff) return refuse(3);
     int suite = m[2];
-    if (suite != 1 && suite != 2) return refuse(4);
-    size_t length = keyid_length(m[3]);
-    if (n < 9 + length + 4) return refuse(5);
+    if (!listed(suite)) return refuse(4);
+    size_t length = keyid_length(m[3]), icv = icv_length(suite);
+    if (n < 9 + length + icv) return refuse(5);
     int slot = lookup(table, m[0] >> 7, m + 3, length, source, source_len);
     if (slot < 0) return refuse(6);
     u8 *s = table + SLOT * slot;
@@ -300,8 +310,8 @@ answer ref_receive(u8 *table, const u8 *m, size_t n, const u8 *source, size_t so
     u32 base[8];
     ref_key(s + KEY, base);
     struct subkeys sub = subkeys(base);
-    if (get(m + n - 4, 4) != icv_of(base, sub, suite, s[EDITION], s + SOURCE, s[SOURCE_LEN], seqnum, m, n - 4)) return refuse(11);
-    size_t payload = n - 4 - (9 + length);
+    if (get(m + n - icv, icv) != icv_of(base, sub, suite, s[EDITION], s + SOURCE, s[SOURCE_LEN], seqnum, m, n - icv)) return refuse(11);
+    size_t payload = n - icv - (9 + length);
     encipher(base, sub, suite, s[EDITION], s + SOURCE, s[SOURCE_LEN], seqnum, m + 9 + length, payload, out);
     take(s, seqnum, payload);
     return done(payload, (size_t)slot, seqnum);
@@ -312,7 +322,8 @@ answer ref_protect(struct crisp_sender *r, const u8 *payload, size_t n, u8 *out,
     if (out_len < 2048) return refuse(1);
     if (r->keyid_len > 128 || r->source_len > 32 || !sound(r->flag, r->keyid, r->keyid_len, r->source_len, r->suite, r->edition, 32)) return refuse(7);
     if (r->current > LAST) return refuse(7);
-    if (n > 2035 - r->keyid_len) return refuse(2);
+    size_t icv = icv_length(r->suite);
+    if (n > 2039 - r->keyid_len - icv) return refuse(2);
     if (r->current == LAST) return refuse(12);
     u64 seqnum = ++r->current;
     u8 *p = out;
@@ -324,7 +335,7 @@ answer ref_protect(struct crisp_sender *r, const u8 *payload, size_t n, u8 *out,
     ref_key(r->key, base);
     struct subkeys sub = subkeys(base);
     encipher(base, sub, r->suite, r->edition, r->source, r->source_len, seqnum, payload, n, p), p += n;
-    set(p, 4, icv_of(base, sub, r->suite, r->edition, r->source, r->source_len, seqnum, out, (size_t)(p - out))), p += 4;
+    set(p, icv, icv_of(base, sub, r->suite, r->edition, r->source, r->source_len, seqnum, out, (size_t)(p - out))), p += icv;
     return done((size_t)(p - out), 0, seqnum);
 }
 

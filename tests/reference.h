@@ -11,7 +11,7 @@ uint64_t ref_block(const uint32_t key[8], uint64_t block);
 uint64_t ref_check(const uint32_t key[8], const uint8_t *bytes, size_t n);
 void ref_counter(const uint32_t key[8], uint32_t iv, const uint8_t *bytes, size_t n, uint8_t *out);
 
-/* The derived keys of suite 1, or the check key alone of suite 2. */
+/* The derived keys of suite 1 or 241, or the check key alone of suite 2 or 242. */
 void ref_keys(const uint32_t base[8], int suite, int edition, const uint8_t *source, size_t source_len, uint64_t seqnum, uint32_t check[8],
               uint32_t cipher[8]);
 
