@@ -118,6 +118,7 @@ static int keeps;
 static void make_table(void)
 {
     static const uint8_t firsts[ENTRIES] = {0x05, 0x81, 0x80, 0x7f, 0xff, 0x00};
+    static const uint8_t suites[] = {CRISP_MAGMA_CTR, CRISP_MAGMA_NULL, CRISP_MAGMA_CTR_LONG, CRISP_MAGMA_NULL_LONG};
     memset(table, 0, CRISP_TABLE);
     keeps = 0;
     for (int i = 0; i < ENTRIES; i++) {
@@ -128,12 +129,12 @@ static void make_table(void)
         s->flag = firsts[i] == 0x80 ? 1 : (uint8_t)below(2);
         s->source_len = 4 + below(29);
         fill(s->source, s->source_len);
-        s->suite = (uint8_t)(1 + below(2));
+        s->suite = suites[below(4)];
         s->edition = s->suite == 1 ? (uint8_t)(1 + below(2)) : 2;
         fill(s->key, 32);
         s->current = below(3) ? below(8) : (1ULL << 48) - 20;
-        uint8_t suite = below(8) ? s->suite : (uint8_t)(3 - s->suite);          /* some entries have the other suite, */
-        uint8_t edition = suite == 2 ? 2 : below(8) ? s->edition : (uint8_t)(3 - s->edition);
+        uint8_t suite = below(8) ? s->suite : suites[below(4)];                 /* some entries have another suite, */
+        uint8_t edition = suite != CRISP_MAGMA_CTR ? 2 : below(8) ? s->edition : (uint8_t)(3 - s->edition);
         uint64_t start = below(4) ? 0 : s->current + below(8);                  /* some the other edition, and some a start */
         (void)crisp_install(table, s->flag, s->keyid, s->keyid_len, s->source, s->source_len, suite, edition, s->key, 32, 1 + below(8), start).reply;
     }
@@ -162,7 +163,7 @@ static void random_record(void)
     case 2: source_len = below(33); break;
     case 3: source_len = 0; break;
     case 4: n = 0; break;
-    case 5: message[1] ^= (uint8_t)below(2), message[2] = (uint8_t)below(4); break;
+    case 5: message[1] ^= (uint8_t)below(2), message[2] = (uint8_t)(below(2) ? below(4) : 240 + below(4)); break;
     case 6: more = 1 + below(3); break;
     case 7: fill(message + 3 + s->keyid_len, 6); break;
     }

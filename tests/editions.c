@@ -1,7 +1,7 @@
 /* editions.c: the forty old controllers, end to end. Each sends by edition 1: a gateway that has its key data with edition 2 refuses every message with 11
  * and stays as it was, one that has it with edition 1 hands out the payload. Forty new controllers the other way round. Then every edition that is not
- * sound, at a sender, at an install and in a slot; the numbers for which both editions make the same message; and those that have one gamma in edition
- * 1. Prints one line, or what does not hold. */
+ * sound with a suite, for each of the four, at a sender, at an install and in a slot; the numbers for which both editions make the same message; and
+ * those that have one gamma in edition 1. Prints one line, or what does not hold. */
 #include "crisp.h"
 #include "random.h"
 #include <stdio.h>
@@ -110,9 +110,10 @@ static void refuses(uint8_t suite, uint8_t edition)
 
 static void refuse_all(void)
 {
+    static const uint8_t suites[] = {CRISP_MAGMA_CTR, CRISP_MAGMA_NULL, CRISP_MAGMA_CTR_LONG, CRISP_MAGMA_NULL_LONG};
     for (int edition = 0; edition < 256; edition++)
-        for (uint8_t suite = 1; suite <= 2; suite++)
-            if (edition != 2 && !(edition == 1 && suite == 1)) refuses(suite, (uint8_t)edition);
+        for (size_t i = 0; i < sizeof suites; i++)
+            if (edition != 2 && !(edition == 1 && suites[i] == CRISP_MAGMA_CTR)) refuses(suites[i], (uint8_t)edition);
 }
 
 /* ---- what the two editions have in common, and what numbers of edition 1 have */

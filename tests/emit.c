@@ -82,7 +82,8 @@ static int sealed(uint8_t suite, uint8_t edition, size_t i)
 
 int main(int argc, char **argv)
 {
-    static const uint8_t kinds[][2] = {{CRISP_MAGMA_CTR, 2}, {CRISP_MAGMA_NULL, 2}, {CRISP_MAGMA_CTR_LONG, 2}, {CRISP_MAGMA_NULL_LONG, 2}, {CRISP_MAGMA_CTR, 1}};
+    static const uint8_t kinds[][2] = {{CRISP_MAGMA_CTR, 2}, {CRISP_MAGMA_NULL, 2}, {CRISP_MAGMA_CTR_LONG, 2}, {CRISP_MAGMA_NULL_LONG, 2},
+                                       {CRISP_MAGMA_CTR, 1}};
     random_state = argc > 1 ? strtoull(argv[1], NULL, 0) : 1;
     for (size_t n = 1; n <= 2048; n++)
         if (modes(n)) return 1;
