@@ -20,7 +20,8 @@
 #include "report.h"
 #endif
 
-/* Appendix A of R 1323565.1.029-2019: what A.1 and A.2 share, and what they do not; and A.1 as an old controller would send it */
+/* Appendix A of R 1323565.1.029-2019: what A.1 and A.2 share, and what they do not; A.1 as an old controller would send it; and both with a long check
+ * value */
 static const uint8_t key_bytes[32] = {
     0x56, 0x50, 0x94, 0x27, 0x15, 0x32, 0x49, 0x65, 0x34, 0x98, 0x52, 0x46, 0x59, 0x32, 0x46, 0x53,
     0x04, 0x53, 0x29, 0x45, 0x34, 0x65, 0x93, 0x84, 0x50, 0x73, 0x24, 0x95, 0x76, 0x35, 0x12, 0x90,
@@ -30,7 +31,8 @@ static const char payload_a[] = "Hi! This is test for CRISP messages\n\x03";
 static const struct kind {
     uint8_t suite, edition;
     uint64_t number;
-} a_1 = {1, 2, 0x0b76e6736001}, a_2 = {2, 2, 0x0b76e66ea001}, old_a_1 = {1, 1, 0x0b76e6736001};
+} a_1 = {1, 2, 0x0b76e6736001}, a_2 = {2, 2, 0x0b76e66ea001}, old_a_1 = {1, 1, 0x0b76e6736001}, long_a_1 = {241, 2, 0x0b76e6736001},
+  long_a_2 = {242, 2, 0x0b76e66ea001};
 
 static uint8_t table[CRISP_TABLE], saved[CRISP_TABLE], data[2048], out[2048], message[2048];
 static volatile uint64_t sink;
@@ -241,8 +243,11 @@ static int walk_capture(uint64_t n)
 static int receive_a_1(uint64_t n) { return receives(&a_1, 37, 0, -1, n, 0); }
 static int receive_old(uint64_t n) { return receives(&old_a_1, 37, 0, -1, n, 0); }
 static int receive_a_2(uint64_t n) { return receives(&a_2, 37, 0, -1, n, 0); }
+static int receive_long_1(uint64_t n) { return receives(&long_a_1, 37, 0, -1, n, 0); }
+static int receive_long_2(uint64_t n) { return receives(&long_a_2, 37, 0, -1, n, 0); }
 static int receive_2048_1(uint64_t n) { return receives(&a_1, 2034, 0, -1, n, 0); }
 static int receive_2048_2(uint64_t n) { return receives(&a_2, 2034, 0, -1, n, 0); }
+static int receive_2048_long(uint64_t n) { return receives(&long_a_1, 2030, 0, -1, n, 0); }
 static int receive_slot_15(uint64_t n) { return receives(&a_1, 37, 15, -1, n, 0); }
 static int refuse_version(uint64_t n) { return receives(&a_1, 37, 0, 1, n, 3); }
 static int refuse_no_entry(uint64_t n) { return receives(&a_1, 37, 0, 3, n, 6); }
@@ -253,8 +258,11 @@ static int refuse_below_start(uint64_t n) { return arrives(&a_1, 37, 0, a_1.numb
 static int protect_a_1(uint64_t n) { return protects(&a_1, 37, n); }
 static int protect_old(uint64_t n) { return protects(&old_a_1, 37, n); }
 static int protect_a_2(uint64_t n) { return protects(&a_2, 37, n); }
+static int protect_long_1(uint64_t n) { return protects(&long_a_1, 37, n); }
+static int protect_long_2(uint64_t n) { return protects(&long_a_2, 37, n); }
 static int protect_2048_1(uint64_t n) { return protects(&a_1, 2034, n); }
 static int protect_2048_2(uint64_t n) { return protects(&a_2, 2034, n); }
+static int protect_2048_long(uint64_t n) { return protects(&long_a_1, 2030, n); }
 static int forget(uint64_t n)
 {
     while (n--) crisp_forget();
@@ -272,6 +280,8 @@ static const struct {
     {"receive-A.1-at-start", receive_at_start}, {"refuse-below-start", refuse_below_start}, {"protect-A.1", protect_a_1}, {"protect-A.2", protect_a_2},
     {"protect-2048-suite-1", protect_2048_1}, {"protect-2048-suite-2", protect_2048_2}, {"forget", forget},
     {"keys-suite-1-edition-1", keys_edition_1}, {"receive-A.1-edition-1", receive_old}, {"protect-A.1-edition-1", protect_old},
+    {"receive-A.1-suite-241", receive_long_1}, {"receive-A.2-suite-242", receive_long_2}, {"receive-2048-suite-241", receive_2048_long},
+    {"protect-A.1-suite-241", protect_long_1}, {"protect-A.2-suite-242", protect_long_2}, {"protect-2048-suite-241", protect_2048_long},
     {"capture-report", report_capture}, {"capture-loop", loop_capture}, {"capture-records", walk_capture},
 };
 

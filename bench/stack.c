@@ -49,10 +49,11 @@ static size_t reserved(void (*f)(void))
 
 /* ---- the calls, each on its longest path */
 
-static uint8_t table[CRISP_TABLE], before[CRISP_TABLE], key[32], source[32], keyid[128] = {0xff}, data[1907], out[2048], message[2048];
+static uint8_t table[CRISP_TABLE], before[CRISP_TABLE], key[32], source[32], keyid[128] = {0xff}, data[CRISP_PAYLOAD_WITH(128)], out[2048], message[2048];
 static struct crisp_sender sender;
 static struct crisp_answer answer;
 static uint8_t suite, edition;
+static size_t longest;          /* the payload's length, so that each message has 2,048 bytes */
 
 static void install(void)
 {
@@ -67,7 +68,7 @@ static void receive(void)
 static void protect(void)
 {
     sender.current = 5;
-    answer = crisp_protect(&sender, data, sizeof data, message, sizeof message);
+    answer = crisp_protect(&sender, data, longest, message, sizeof message);
 }
 static void listing(void) { answer = crisp_listing(table, 0, out, sizeof out); }
 static void removal(void)
@@ -84,7 +85,7 @@ static void report(void)
 {
     memcpy(table, before, sizeof table);
     memcpy(capture + 73, message, sizeof message);
-    answer.reply = capture_report(table, capture, sizeof capture, text, sizeof text).length != 3841;
+    answer.reply = capture_report(table, capture, sizeof capture, text, sizeof text).length != sizeof "record=1 answer=0 payload=\n" - 1 + 2 * longest;
 }
 
 /* what a caller may have pushed for the call, above the return address */
@@ -203,7 +204,7 @@ static void gauge_calls(uint8_t of_suite, uint8_t of_edition, const char *what)
         {"install", install, CRISP_STACK - PUSHED}, {"protect", protect, 1024}, {"receive", receive, 1024}, {"listing", listing, CRISP_STACK - PUSHED},
         {"remove", removal, CRISP_STACK - PUSHED}, {"report", report, 4096 - PUSHED},
     };
-    suite = of_suite, edition = of_edition;
+    suite = of_suite, edition = of_edition, longest = CRISP_PAYLOAD_OF(sizeof keyid, suite);
     sender = (struct crisp_sender){.flag = 1, .keyid = {0xff}, .keyid_len = 128, .source_len = 32, .suite = suite, .edition = edition};
     install();
     memcpy(before, table, sizeof table);
@@ -221,6 +222,8 @@ int main(int argc, char **argv)
     gauge_calls(1, 2, "suite 1");
     gauge_calls(2, 2, "suite 2");
     gauge_calls(1, 1, "edition 1");
+    gauge_calls(241, 2, "suite 241");
+    gauge_calls(242, 2, "suite 242");
     gauge("capture order", order);
     gauge("capture record", record);
     if (argc > 1) gauge_counter();
