@@ -1,5 +1,6 @@
 /* A sender and a gateway in one program: three messages are sent, the second arrives first and once more later, and the entry is listed. Then a
- * second gateway takes the first one's place: the old messages do not pass there, the next one does. Nothing is kept here; examples/kept.c shows how.
+ * second gateway takes the first one's place: the old messages do not pass there, the next one does. And a controller of the turbine hall sends with a
+ * longer check value. Nothing is kept here; examples/kept.c shows how.
  * Build: cc exchange.c $(pkg-config --cflags --libs crisp) */
 #include "crisp.h"
 #include <stdio.h>
@@ -12,6 +13,10 @@ static const uint8_t source[] = "meter 0017";
 static const uint8_t key[32] = {
     0x11, 0x22, 0x33, 0x44, 0x55, 0x66, 0x77, 0x88, 0x99, 0xaa, 0xbb, 0xcc, 0xdd, 0xee, 0xff, 0x00,
     0x01, 0x12, 0x23, 0x34, 0x45, 0x56, 0x67, 0x78, 0x89, 0x9a, 0xab, 0xbc, 0xcd, 0xde, 0xef, 0xf0,
+};
+static const uint8_t hall_key[32] = {
+    0xf1, 0xe2, 0xd3, 0xc4, 0xb5, 0xa6, 0x97, 0x88, 0x79, 0x6a, 0x5b, 0x4c, 0x3d, 0x2e, 0x1f, 0x00,
+    0x0f, 0x1e, 0x2d, 0x3c, 0x4b, 0x5a, 0x69, 0x78, 0x87, 0x96, 0xa5, 0xb4, 0xc3, 0xd2, 0xe1, 0xf0,
 };
 
 struct packet {
@@ -49,16 +54,32 @@ static int lists(const uint8_t *gateway, size_t slot)
     return (int)a.reply;
 }
 
+/* The hall's messages are four bytes longer, for their check value has eight. One that is passed off as a message with a short check value is refused by
+ * its suite, which is not the entry's, and the true one is taken afterwards. With flag 0 an entry is found by its KeyId alone. */
+static int turbine_hall(uint8_t *gateway)
+{
+    static struct packet packet, shortened;
+    struct crisp_sender hall = {.flag = 0, .keyid = {0x06}, .keyid_len = 1, .source = "turbine hall", .source_len = 12, .suite = CRISP_MAGMA_CTR_LONG,
+                                .edition = 2};
+    memcpy(hall.key, hall_key, sizeof hall_key);
+    struct crisp_answer a = crisp_install(gateway, hall.flag, hall.keyid, hall.keyid_len, hall.source, hall.source_len, hall.suite, hall.edition, hall_key,
+                                          sizeof hall_key, 64, 0);
+    if (a.reply != CRISP_DONE || sends(&hall, "41.2 MW", &packet) != CRISP_DONE) return 1;
+    shortened = packet;
+    shortened.bytes[2] = CRISP_MAGMA_CTR;
+    return arrives(gateway, &shortened) != CRISP_OTHER_SUITE || arrives(gateway, &packet) != CRISP_DONE || lists(gateway, a.slot) != CRISP_DONE;
+}
+
 int main(void)
 {
     static const char *const readings[] = {"17.3 GJ", "17.9 GJ", "18.4 GJ"};
     static struct packet packets[3], forged;
-    struct crisp_sender sender = {.flag = 1, .keyid_len = sizeof keyid, .source_len = sizeof source - 1, .suite = 1, .edition = 2};
+    struct crisp_sender sender = {.flag = 1, .keyid_len = sizeof keyid, .source_len = sizeof source - 1, .suite = CRISP_MAGMA_CTR, .edition = 2};
     memcpy(sender.keyid, keyid, sizeof keyid);
     memcpy(sender.source, source, sizeof source - 1);
     memcpy(sender.key, key, sizeof key);
 
-    struct crisp_answer a = crisp_install(table, 1, keyid, sizeof keyid, source, sizeof source - 1, 1, 2, key, sizeof key, 64, 0);
+    struct crisp_answer a = crisp_install(table, 1, keyid, sizeof keyid, source, sizeof source - 1, CRISP_MAGMA_CTR, 2, key, sizeof key, 64, 0);
     if (a.reply != CRISP_DONE) return 1;
     size_t slot = a.slot;
 
@@ -74,10 +95,11 @@ int main(void)
     if (crisp_remove(table, slot).reply != CRISP_DONE) return 1;
 
     /* the key has a past: it starts behind all that was accepted, and with start 0 all three would pass once more */
-    a = crisp_install(replacement, 1, keyid, sizeof keyid, source, sizeof source - 1, 1, 2, key, sizeof key, 64, next);
+    a = crisp_install(replacement, 1, keyid, sizeof keyid, source, sizeof source - 1, CRISP_MAGMA_CTR, 2, key, sizeof key, 64, next);
     if (a.reply != CRISP_DONE) return 1;
     for (int i = 0; i < 3; i++)
         if (arrives(replacement, &packets[i]) != CRISP_BELOW_FLOOR) return 1;
     if (sends(&sender, "18.8 GJ", &packets[0]) != CRISP_DONE || arrives(replacement, &packets[0]) != CRISP_DONE) return 1;
-    return lists(replacement, a.slot) == CRISP_DONE ? 0 : 1;
+    if (lists(replacement, a.slot) != CRISP_DONE) return 1;
+    return turbine_hall(replacement);
 }

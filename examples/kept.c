@@ -116,9 +116,9 @@ static void make(void)
     r->flag = 1;
     memcpy(r->keyid, keyid, r->keyid_len = sizeof keyid);
     memcpy(r->source, source, r->source_len = sizeof source);
-    r->suite = 1;
+    r->suite = CRISP_MAGMA_CTR;
     r->edition = 2;
-    struct crisp_answer a = crisp_install(gateway.table, 1, keyid, sizeof keyid, source, sizeof source, 1, 2, r->key, sizeof r->key, 64, 0);
+    struct crisp_answer a = crisp_install(gateway.table, 1, keyid, sizeof keyid, source, sizeof source, r->suite, r->edition, r->key, sizeof r->key, 64, 0);
     if (a.reply != CRISP_DONE) stop("install", "refused");
     memcpy(gateway.mark, gateway_mark, 16);
     memcpy(sender.mark, sender_mark, 16);
