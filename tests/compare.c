@@ -490,10 +490,10 @@ static void make_swept(void)
 
 static void sweep_all(void)
 {
-    static const int first[] = {0, 1, 2, 3, 4, 5, 6, 7, 8, 9, 13, 16, 17, 21}, second[] = {0, 1, 2, 3, 4, 5, 8, 9, 13, 16, 17, 21};
+    static const int which[] = {0, 1, 2, 3, 4, 5, 6, 7, 8, 9, 13, 16, 17, 21};
     make_swept();
-    for (size_t k = 0; k < sizeof first / sizeof *first; k++) sweep(first[k], 7 * (size_t)(first[k] % 8));
-    for (size_t k = 0; k < sizeof second / sizeof *second; k++) sweep_payloads(second[k]);
+    for (size_t k = 0; k < sizeof which / sizeof *which; k++) sweep(which[k], 7 * (size_t)(which[k] % 8));
+    for (size_t k = 0; k < sizeof which / sizeof *which; k++) sweep_payloads(which[k]);
 }
 
 /* one line of counts; answers how many are 0 */

@@ -50,7 +50,7 @@ static int look(const char *name, void (*f)(void))
     on_stack(f, stack + STACK, 0);
     if (answer.reply != CRISP_DONE) return -1;
     ref_key(sender.key, base);
-    ref_keys(base, 1, sender.edition, sender.source, 32, 1, keys[0], keys[1]);
+    ref_keys(base, sender.suite, sender.edition, sender.source, 32, 1, keys[0], keys[1]);
     const struct { const void *at; size_t n; } secrets[] = {{sender.key, 32}, {keys[0], 32}, {keys[1], 32}, {payload, sizeof payload}};
     int all = 0;
     printf("%-10s%s", name, forgets ? " forgotten:" : "          :");
@@ -63,15 +63,15 @@ static int look(const char *name, void (*f)(void))
     return all;
 }
 
-int main(void)
+/* the calls with key data of that suite */
+static int look_at_calls(uint8_t suite)
 {
     int bad = 0;
-    random_state = 1;
-    sender = (struct crisp_sender){.flag = 1, .keyid = {5}, .keyid_len = 1, .source_len = 32, .suite = 1, .edition = 2};
+    sender = (struct crisp_sender){.flag = 1, .keyid = {5}, .keyid_len = 1, .source_len = 32, .suite = suite, .edition = 2};
     fill(sender.source, 32);
     fill(sender.key, CRISP_KEY);
     fill(payload, sizeof payload);
-    printf("groups of four bytes in stack/registers: base key, check key, cipher key, payload\n");
+    printf("suite %d, groups of four bytes in stack/registers: base key, check key, cipher key, payload\n", suite);
     for (forgets = 0; forgets < 2; forgets++) {
         memset(table, 0, sizeof table);
         sender.current = 0;
@@ -83,4 +83,11 @@ int main(void)
         bad |= forgets ? n != 0 : n <= 0;
     }
     return bad;
+}
+
+int main(void)
+{
+    random_state = 1;
+    int bad = look_at_calls(CRISP_MAGMA_CTR);
+    return bad | look_at_calls(CRISP_MAGMA_CTR_LONG);
 }
