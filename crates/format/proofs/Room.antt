@@ -20,7 +20,7 @@ use Rattle.format.specs.declared.header.Parsed.the-variants.{Read, BadLe
 use Rattle.format.specs.declared.suite.Numbered.{Numbered}
 use Rattle.format.specs.declared.suite.Numbered.the-variants.{Known, Unknown}
 use Rattle.format.proofs.KeyIds.{length-least}
-use Rattle.format.proofs.Suites.{icv-four}
+use Rattle.format.proofs.Suites.{icv-least}
 
 pub record Room (m : List ℕ) (h : Header) : Type 0 where
   pub short : length m ≤ greatestMessage
@@ -67,9 +67,9 @@ read-room m {h} e =
     }
 
 module _ {m : List ℕ} {h : Header} (r : Room m h) where
-  -- "a payload has at most 2,035 − L"
+  -- "payloads have at most 2,039 − L − T bytes": 2,034 with the shortest KeyId and ICV
   pub payload-most : payloadLength h m ≤ greatestMessage - leastMessage
-  payload-most = omega (arith, r .short, icv-four (h .suite), length-least (h .keyid))
+  payload-most = omega (arith, r .short, icv-least (h .suite), length-least (h .keyid))
 
   pub number-small : Bytes m → h .seqnum < 2 ^ 48
   number-small b =

@@ -16,7 +16,7 @@ use Rattle.format.specs.declared.header.Parsed.the-variants.{Read}
 use Rattle.format.specs.declared.suite.Suite.{Suite}
 use Rattle.format.proofs.Headers.{Begun, reads}
 use Rattle.format.proofs.KeyIds.{length-anywhere, length-least}
-use Rattle.format.proofs.Suites.{number-suite, number-byte, icv-four}
+use Rattle.format.proofs.Suites.{number-suite, number-byte, icv-least}
 
 -- the header that stands for what is written
 abbrev pub headerFor : ℕ → Suite → List ℕ → ℕ → Header
@@ -60,7 +60,7 @@ read-written flag s keyId seqNum rest w enough short =
     let small : flag * 2 ^ 15 < 2 ^ 16 = omega arith in
     let same : flag * 2 ^ 15 / 2 ^ 15 ≡ flag = omega arith in
     let begun : Begun m (flag * 2 ^ 15) s (keyIdStarting first 3) (length keyId) = record {
-      least = omega (arith, icv-four s);
+      least = omega (arith, icv-least s);
       most = omega arith;
       is = sym (number-there 2 (flag * 2 ^ 15) 0 [] (bytesOf 1 (numberOf s) ++ keyId ++ bytesOf 6 seqNum ++ rest) refl small);
       version = omega arith;

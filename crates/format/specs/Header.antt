@@ -47,7 +47,7 @@ keyIdIn m = keyIdStarting (getD m 3 0) 3
 abbrev pub seqNumIn : List ℕ → ℕ
 seqNumIn m = bigEndian 6 (drop (3 + lengthOf (keyIdIn m)) m)
 
--- "5: message shorter than 9 + L + 4", where 4 is the suite's ICV
+-- "5 means shorter than 9 + L + T" (02, No. 5), where T is the length of the suite's ICV
 abbrev pub readAs : Numbered → List ℕ → Parsed
 readAs Unknown m = BadSuite
 readAs (Known s) m =

@@ -1,6 +1,6 @@
 -- Key data (01, "The message, big-endian": "Key data is sound when L is what the first byte asks; the SourceIdentifier has 4 to 32 bytes; the
 -- base key has 32; the suite is 1 or 2; flag 0 does not go with KeyId 80"). A flag is a byte here, and one over 1 is unsound. 02, No. 4: "Key data
--- gets an edition".
+-- gets an edition"; No. 5: "the soundness rule now admit[s] 241 and 242".
 use mathlib.Core.Bool.{Bool, true, false, _&&_, _||_, not}
 use mathlib.Core.List.{List}
 use Prim.Native.Nat.{ℕ}

@@ -1,11 +1,14 @@
-// What a suite settles: its number, ICV length, label, block count, output bits, and whether it enciphers.
+// What a suite settles: its number, ICV length, label, block length, block count, output bits, and whether it enciphers.
 ghost use mathlib.Core.Path.{_≡_};
-ghost use Rattle.format.specs.Suite.{suiteOf, numberOf, icvLengthOf, labelOf, blocksOf, outputBitsOf, enciphers};
+ghost use Rattle.format.specs.Suite.{suiteOf, numberOf, icvLengthOf, enciphers, labelOf, blockLengthOf, keyBlocksOf, blocksOf, outputBitsOf};
+use crate::key_data;
 
-// MagmaCtr is MAGMA-CTR-CMAC, MagmaNull is MAGMA-NULL-CMAC.
+// MagmaCtr is MAGMA-CTR-CMAC, MagmaNull is MAGMA-NULL-CMAC; the long ones are house suites, with an ICV of a whole block and numbers of their own.
 pub enum Suite {
     MagmaCtr,
     MagmaNull,
+    MagmaCtrLong,
+    MagmaNullLong,
 }
 
 // What a suite number stands for.
@@ -19,11 +22,17 @@ impl Suite {
 
     pub const MAGMA_NULL: u8 = 2;
 
-    // Bytes of an ICV.
-    pub const ICV: usize = 4;
+    pub const MAGMA_CTR_LONG: u8 = 241;
 
-    // Bits of a block of derivation.
-    pub const BLOCK_BITS: u64 = 64;
+    pub const MAGMA_NULL_LONG: u8 = 242;
+
+    // Bytes of a short and of a long ICV.
+    const SHORT_ICV: usize = 4;
+
+    const LONG_ICV: usize = 8;
+
+    // Bytes of a block of Magma.
+    const MAGMA_BLOCK: usize = 8;
 
     // The suite with that number.
     pub fn numbered(cs: u8) -> Numbered
@@ -32,6 +41,8 @@ impl Suite {
         match cs {
             Suite::MAGMA_CTR => Numbered::Known(Suite::MagmaCtr),
             Suite::MAGMA_NULL => Numbered::Known(Suite::MagmaNull),
+            Suite::MAGMA_CTR_LONG => Numbered::Known(Suite::MagmaCtrLong),
+            Suite::MAGMA_NULL_LONG => Numbered::Known(Suite::MagmaNullLong),
             _ => Numbered::Unknown,
         }
     }
@@ -43,6 +54,8 @@ impl Suite {
         match self {
             Suite::MagmaCtr => Suite::MAGMA_CTR,
             Suite::MagmaNull => Suite::MAGMA_NULL,
+            Suite::MagmaCtrLong => Suite::MAGMA_CTR_LONG,
+            Suite::MagmaNullLong => Suite::MAGMA_NULL_LONG,
         }
     }
 
@@ -50,34 +63,11 @@ impl Suite {
         ensures { λ r. ⌜ r ≡ icvLengthOf self ⌝ }
     {
         match self {
-            Suite::MagmaCtr => Suite::ICV,
-            Suite::MagmaNull => Suite::ICV,
+            Suite::MagmaCtr => Suite::SHORT_ICV,
+            Suite::MagmaNull => Suite::SHORT_ICV,
+            Suite::MagmaCtrLong => Suite::LONG_ICV,
+            Suite::MagmaNullLong => Suite::LONG_ICV,
         }
-    }
-
-    pub fn label(self) -> [u8; 6]
-        ensures { λ r. ⌜ r ≡ labelOf self ⌝ }
-    {
-        match self {
-            Suite::MagmaCtr => *b"macenc",
-            Suite::MagmaNull => *b"macmac",
-        }
-    }
-
-    // How many blocks derivation makes.
-    fn blocks(self) -> u8
-        ensures { λ r. ⌜ r ≡ blocksOf self ⌝ }
-    {
-        match self {
-            Suite::MagmaCtr => 8,
-            Suite::MagmaNull => 4,
-        }
-    }
-
-    pub fn output_bits(self) -> u64
-        ensures { λ r. ⌜ r ≡ outputBitsOf self ⌝ }
-    {
-        Suite::BLOCK_BITS * (self.blocks() as u64)
     }
 
     pub fn enciphers(self) -> bool
@@ -86,6 +76,49 @@ impl Suite {
         match self {
             Suite::MagmaCtr => true,
             Suite::MagmaNull => false,
+            Suite::MagmaCtrLong => true,
+            Suite::MagmaNullLong => false,
         }
+    }
+
+    pub fn label(self) -> [u8; 6]
+        ensures { λ r. ⌜ r ≡ labelOf self ⌝ }
+    {
+        if self.enciphers() {
+            *b"macenc"
+        } else {
+            *b"macmac"
+        }
+    }
+
+    // Bytes of a block of its cipher.
+    pub fn block_length(self) -> usize
+        ensures { λ r. ⌜ r ≡ blockLengthOf self ⌝ }
+    {
+        Suite::MAGMA_BLOCK
+    }
+
+    // How many blocks of derivation make a key.
+    pub fn key_blocks(self) -> u8
+        ensures { λ r. ⌜ r ≡ keyBlocksOf self ⌝ }
+    {
+        (key_data::KEY / self.block_length()) as u8
+    }
+
+    // How many blocks derivation makes: a check key and, where the suite enciphers, a cipher key.
+    fn blocks(self) -> u8
+        ensures { λ r. ⌜ r ≡ blocksOf self ⌝ }
+    {
+        if self.enciphers() {
+            2 * self.key_blocks()
+        } else {
+            self.key_blocks()
+        }
+    }
+
+    pub fn output_bits(self) -> u64
+        ensures { λ r. ⌜ r ≡ outputBitsOf self ⌝ }
+    {
+        8 * (self.block_length() as u64) * (self.blocks() as u64)
     }
 }

@@ -6,7 +6,7 @@ use native.Mathlib.Omega.{arith}
 use borrow.Author.Needs.{needs}
 use Rattle.format.proofs.Headers.{Begun, reads-short, reads-long, reads-version, reads-suite, reads-too-short, reads}
 use Rattle.format.proofs.KeyIds.{length-most}
-use Rattle.format.proofs.Suites.{icv-four}
+use Rattle.format.proofs.Suites.{icv-most}
 use Rattle.format.proofs.header.read_header.Statement.{statement}
 use Rattle.format.proofs.header.read_header.Tie as tie
 
@@ -48,7 +48,7 @@ small c = rw (c .length .ensures, c .before .starting .ensures) (length-most _ 3
 
 add-if4-2 : tie.Need-add-if4-2
 add-if4-2 c =
-    omega (arith, small (c .before), c .icv-length .ensures, icv-four (suite (c .before) .numbered2 .given .0 .0))
+    omega (arith, small (c .before), c .icv-length .ensures, icv-most (suite (c .before) .numbered2 .given .0 .0))
 
 returns-5 : tie.Need-returns-5
 returns-5 c = reads-too-short (begun (c .before .before)) (rw (← c .before .icv-length .ensures) (c .if4 .taken))
