@@ -82,7 +82,13 @@ pub extern "C" fn cipher_keys_1(
     };
     BothKeys {
         check: derivation::derived_key(base, subkeys, purpose, source, derivation::CHECK),
-        cipher: derivation::derived_key(base, subkeys, purpose, source, derivation::CIPHER),
+        cipher: derivation::derived_key(
+            base,
+            subkeys,
+            purpose,
+            source,
+            derivation::cipher_first(purpose.suite),
+        ),
     }
 }
 

@@ -13,16 +13,12 @@ use Rattle.octets.proofs.Places.{Written, and-then}
 use Rattle.derivation.specs.Derivation.{serialOf, dataAfter}
 use Rattle.format.specs.Suite.{labelOf, numberOf, outputBitsOf}
 use Rattle.format.specs.declared.suite.Suite.{Suite}
-use Rattle.format.specs.declared.suite.Suite.the-variants.{MagmaCtr, MagmaNull}
+use Rattle.format.proofs.Suites.{label-length}
 
 -- the bytes up to the end of those that were written
 pub take-put : (l : List ℕ) (at : ℕ) (u : List ℕ) (n : ℕ) → at ≤ length l → at + length u ≡ n → take n (put l at u) ≡ take at l ++ u
 take-put l at u n h e =
     take-at (take at l ++ u) (drop (at + length u) l) n (rw (length-append, length-take-le at l h) e)
-
-label-length : (s : Suite) → length (labelOf s) ≡ 6
-label-length MagmaCtr = refl
-label-length MagmaNull = refl
 
 module _ (s : Suite) (edition : ℕ) (source : List ℕ) (seqNum : ℕ) where
   pub data-length : length (dataAfter s edition source seqNum) ≡ 17 + length source

@@ -6,7 +6,7 @@ use lib.Dec.{eqb}
 use lib.ListN.{length}
 use Rattle.octets.specs.Octets.{bytesOf}
 use Rattle.modes.specs.Modes.{magmaCheck}
-use Rattle.format.specs.Suite.{labelOf, numberOf, outputBitsOf}
+use Rattle.format.specs.Suite.{labelOf, numberOf, keyBlocksOf, outputBitsOf}
 use Rattle.format.specs.declared.suite.Suite.{Suite}
 
 -- 35 bits of SeqNum's 48: in edition 1 the low ones, else the top ones
@@ -35,12 +35,12 @@ unfoldable pub blockWords : (ℕ → ℕ) → ℕ → ℕ → List ℕ
 blockWords block first zero = []
 blockWords block first (suc n) = blockWords block first n ++ (block (first + n) / 2 ^ 32 ∷ block (first + n) % 2 ^ 32 ∷ [])
 
--- the key that four blocks make: 1 to 4 the check key, 5 to 8 the cipher key
+-- the key that the blocks from a first one on make: of Magma's, 1 to 4 the check key, 5 to 8 the cipher key
 abbrev pub keyFrom : List ℕ → Suite → ℕ → List ℕ → ℕ → ℕ → List ℕ
-keyFrom base s edition source seqNum first = blockWords (keyBlock base s edition source seqNum) first 4
+keyFrom base s edition source seqNum first = blockWords (keyBlock base s edition source seqNum) first (keyBlocksOf s)
 
 abbrev pub checkKey : List ℕ → Suite → ℕ → List ℕ → ℕ → List ℕ
 checkKey base s edition source seqNum = keyFrom base s edition source seqNum 1
 
 abbrev pub cipherKey : List ℕ → Suite → ℕ → List ℕ → ℕ → List ℕ
-cipherKey base s edition source seqNum = keyFrom base s edition source seqNum 5
+cipherKey base s edition source seqNum = keyFrom base s edition source seqNum (1 + keyBlocksOf s)

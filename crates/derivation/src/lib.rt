@@ -6,6 +6,7 @@ ghost use lib.ListN.{length, drop};
 ghost use Rattle.octets.specs.Octets.{put};
 ghost use Rattle.magma.specs.Magma.{encrypted};
 ghost use Rattle.modes.specs.Modes.{firstSubkey, secondSubkey, checkWith};
+ghost use Rattle.format.specs.Suite.{keyBlocksOf};
 ghost use Rattle.derivation.specs.Derivation.{serialOf, dataAfter, blockWords, keyFrom};
 use format::key_data;
 use format::suite::Suite;
@@ -18,13 +19,18 @@ pub struct Purpose {
     pub seqnum: u64,
 }
 
-// The blocks that make the check key and the cipher key start at these numbers; a key has four.
+// The first of the blocks that make the check key.
 pub const CHECK: u8 = 1;
-
-pub const CIPHER: u8 = 5;
 
 // A block's data with the longest source.
 const LONGEST: usize = 50;
+
+// The first of the blocks that make the cipher key: they follow those of the check key.
+pub fn cipher_first(suite: Suite) -> u8
+    ensures { λ r. ⌜ r ≡ 1 + keyBlocksOf suite ⌝ }
+{
+    CHECK + suite.key_blocks()
+}
 
 // The key that the four blocks from `first` on make. The subkeys are the base key's.
 pub fn derived_key(

@@ -2,13 +2,13 @@
 -- the key data's own (02, No. 4).
 use mathlib.Core.Bool.{Bool, cond}
 use mathlib.Core.List.{List, _++_}
-use Prim.Native.Nat.{ℕ, _-_, _*_, _/_, _^_}
+use Prim.Native.Nat.{ℕ}
 use lib.Dec.{eqb}
 use lib.ListN.{take, drop}
 use Rattle.octets.specs.Octets.{bigEndian, bytesOf, put}
 use Rattle.magma.specs.Magma.{keyWords}
-use Rattle.modes.specs.Modes.{magmaCheck, magmaCounter}
-use Rattle.format.specs.Suite.{icvLengthOf, enciphers}
+use Rattle.modes.specs.Modes.{cut, magmaCheck, magmaCounter}
+use Rattle.format.specs.Suite.{icvLengthOf, blockLengthOf, enciphers}
 use Rattle.format.specs.Header.{headerBytes, endOf, payloadLength, payloadIn}
 use Rattle.format.specs.KeyData.{KeyData}
 use Rattle.derivation.specs.Derivation.{checkKey, cipherKey, ivOf}
@@ -17,13 +17,9 @@ use Rattle.message.specs.declared.sealing.Opened.{Opened}
 use Rattle.message.specs.declared.sealing.Opened.the-variants.{Payload, Wrong}
 use Rattle.format.specs.declared.suite.Suite.{Suite}
 
--- the leading n bytes of a block of b bytes, as a number
-abbrev pub cut : ℕ → ℕ → ℕ → ℕ
-cut b n block = block / 2 ^ (8 * (b - n))
-
--- "The ICV covers all before it, the encrypted payload included."
+-- "The ICV covers all before it, the encrypted payload included.": as much of the check value as the suite has for it (02, No. 5)
 unfoldable pub icvOf : Suite → ℕ → List ℕ → List ℕ → ℕ → List ℕ → ℕ
-icvOf s edition base source seqNum front = cut 8 (icvLengthOf s) (magmaCheck (checkKey base s edition source seqNum) front)
+icvOf s edition base source seqNum front = cut (blockLengthOf s) (icvLengthOf s) (magmaCheck (checkKey base s edition source seqNum) front)
 
 -- the payload as it stands in a message; the same turns it back
 unfoldable pub enciphered : Suite → ℕ → List ℕ → List ℕ → ℕ → List ℕ → List ℕ

@@ -120,7 +120,8 @@ fn icv(base: &[u32; 8], subkeys: Subkeys, purpose: Purpose, source: &[u8], front
 {
     let suite = purpose.suite;
     let key = derivation::derived_key(base, subkeys, purpose, source, derivation::CHECK);
-    modes::check_value(&key, front) >> (8 * (8 - suite.icv_length() as u64))
+    let unused = suite.block_length() - suite.icv_length();
+    modes::check_value(&key, front) >> (8 * unused as u64)
 }
 
 // What the suite makes of a payload, enciphered or not, and back again, is written at `at`.
@@ -138,7 +139,8 @@ fn encipher(
 {
     let suite = purpose.suite;
     if suite.enciphers() {
-        let key = derivation::derived_key(base, subkeys, purpose, source, derivation::CIPHER);
+        let first = derivation::cipher_first(suite);
+        let key = derivation::derived_key(base, subkeys, purpose, source, first);
         let iv = (purpose.seqnum % 4294967296) as u32;
         modes::counter(&key, iv, payload, out, at);
     } else {

@@ -1,3 +1,4 @@
 pub mod Blocks
+pub mod Cuts
 pub mod Gamma
 pub mod Widths

@@ -69,6 +69,10 @@ checkWith b E first second bytes =
 abbrev pub checkValue : ℕ → ℕ → (ℕ → ℕ) → List ℕ → ℕ
 checkValue b c E bytes = checkWith b E (firstSubkey b c E) (secondSubkey b c E) bytes
 
+-- the leading n bytes of a block of b bytes, as a number (02, No. 5: "each caller cuts what it needs")
+abbrev pub cut : ℕ → ℕ → ℕ → ℕ
+cut b n block = block / 2 ^ (8 * (b - n))
+
 -- ---- at Magma
 
 -- the first counter is the IV followed by 32 zero bits
