@@ -120,8 +120,8 @@ fn icv(base: &[u32; 8], subkeys: Subkeys, purpose: Purpose, source: &[u8], front
 {
     let suite = purpose.suite;
     let key = derivation::derived_key(base, subkeys, purpose, source, derivation::CHECK);
-    let unused = suite.block_length() - suite.icv_length();
-    modes::check_value(&key, front) >> (8 * unused as u64)
+    let behind = suite.block_length() - suite.icv_length();
+    modes::check_value(&key, front) >> (8 * behind as u64)
 }
 
 // What the suite makes of a payload, enciphered or not, and back again, is written at `at`.

@@ -12,9 +12,10 @@ returns : tie.Need-returns
 unfolding enciphered
 returns c =
     let key = c .before .before .before .before .before .before in
-    let test = key .before in
+    let first = key .before in
+    let test = first .before in
     let on : enciphers (test .before .before .before .before .before .args .purpose .suite) ≡ true = sym (test .before .enciphers .ensures) ∙ test .if1 .taken in
-    rw (c .before .before .counter .ensures, key .derived-key .ensures, on)
+    rw (c .before .before .counter .ensures, key .derived-key .ensures, first .cipher-first .ensures, on)
 
 returns-2 : tie.Need-returns-2
 unfolding enciphered
@@ -27,7 +28,7 @@ pub encipher-spec : {M : Type 1} → statement M
 encipher-spec =
     tie.close
     (tie.spec
-    (λ c κs. search needs) (λ c κs. search needs) (λ c. search needs) (λ c κs. search needs) (λ c κs. search needs) (λ c. search needs)
+    (λ c κs. search needs) (λ c κs. search needs) (λ c κs. search needs) (λ c. search needs) (λ c κs. search needs) (λ c κs. search needs) (λ c. search needs)
     returns
     (λ c. search needs)
     returns-2)

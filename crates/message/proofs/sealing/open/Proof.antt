@@ -6,7 +6,7 @@ use lib.ListN.{length-take, length-drop}
 use Rattle.message.specs.Sealing.{openedUnder}
 use Rattle.message.proofs.Opening.{Compared, same-right, other-wrong}
 use Rattle.format.proofs.Room.{Room, read-room}
-use Rattle.format.proofs.Suites.{icv-four}
+use Rattle.format.proofs.Suites.{icv-most}
 use Rattle.message.proofs.sealing.open.Statement.{statement}
 use Rattle.message.proofs.sealing.open.Tie as tie
 
@@ -20,7 +20,7 @@ read-requires : tie.Need-read-requires
 read-requires c κs =
     let l = c .before .before .before .before .before in
     let r = room l in
-    (omega arith, omega (arith, icv-four (start l .args .header .suite)))
+    (omega arith, omega (arith, icv-most (start l .args .header .suite)))
 
 compared : (c : tie.After-read)
     → let a = start (c .before .before .before .before .before .before) .args in
