@@ -23,7 +23,7 @@ use Rattle.format.specs.declared.header.Parsed.{Parsed}
 use Rattle.format.specs.declared.header.Parsed.the-variants.{Read, BadLength, BadVersion, BadSuite, TooShort}
 use Rattle.format.proofs.KeyIds.{length-least}
 use Rattle.format.proofs.Room.{read-room, payload-most}
-use Rattle.format.proofs.Suites.{icv-four}
+use Rattle.format.proofs.Suites.{icv-least}
 use Rattle.window.specs.Entry.{taken}
 use Rattle.lookup.specs.Lookup.{leadsTo}
 use Rattle.lookup.proofs.Firsts.{leads-small}
@@ -122,4 +122,4 @@ received-brief t m source out =
     of-received (Brief m) t out (λ n some small. record { listed = small; short = omega arith; fits = omega arith; silent = λ no. refl }) m source
     (λ h i l unharmed.
     let room = read-room m (l .read) in
-    record { listed = lit< tt; short = omega (arith, icv-four (h .suite), length-least (h .keyid)); fits = omega (arith, payload-most room); silent = λ no. absurd (no refl) })
+    record { listed = lit< tt; short = omega (arith, icv-least (h .suite), length-least (h .keyid)); fits = omega (arith, payload-most room); silent = λ no. absurd (no refl) })

@@ -65,11 +65,11 @@ sent suite d n payload out = record {
   out = put out 0 (messageOf suite d n payload);
 }
 
--- "a payload has at most 2,035 − L": what 2,048 bytes leave beside the header and the suite's ICV
+-- "With ICV length T, payloads have at most 2,039 − L − T bytes." (02, No. 5): what 2,048 bytes leave beside the header and the suite's ICV
 abbrev pub payloadLimit : Suite → Keys → ℕ
 payloadLimit suite d = greatestMessage - (fixedBytes + length (keyDataIn d .keyId) + icvLengthOf suite)
 
--- 2: payload over 2,035 − L; 12: current number is 2^48 − 1. "Protect adds 1 to the current number and uses the result."
+-- 2: payload over this limit; 12: current number is 2^48 − 1. "Protect adds 1 to the current number and uses the result."
 abbrev pub numbered : Numbered → Sender → List ℕ → List ℕ → Outcome
 numbered Unknown s payload out = refusal damaged s out
 numbered (Known suite) s payload out =

@@ -14,7 +14,7 @@ use Rattle.answers.specs.Answers.{outputRoom}
 use Rattle.format.specs.Suite.{suiteOf}
 use Rattle.format.specs.declared.suite.Numbered.the-variants.{Known}
 use Rattle.format.specs.declared.suite.Suite.{Suite}
-use Rattle.format.proofs.Suites.{icv-four}
+use Rattle.format.proofs.Suites.{icv-most}
 use Rattle.sender.specs.Protect.{keyDataIn, soundRecord, payloadLimit}
 use Rattle.sender.specs.declared.Keys.{Keys}
 use Rattle.sender.proofs.Outcomes.{refuses, sends, no-room, damaged-record, unknown, too-long, ended, goes}
@@ -61,7 +61,7 @@ keyid-length c =
 
 -- header and ICV leave room for a payload
 short : (c : tie.After-icv-length) → fixedBytes + keys-of (at-else2 (c .before)) .«keyid_len» + c .icv-length .result ≤ greatestMessage
-short c = omega (arith, keyid-room (at-else2 (c .before)), c .icv-length .ensures, icv-four (suite-of (c .before)))
+short c = omega (arith, keyid-room (at-else2 (c .before)), c .icv-length .ensures, icv-most (suite-of (c .before)))
 
 -- what the code takes for the longest payload is what the definition does
 longest : (c : tie.After-icv-length)
