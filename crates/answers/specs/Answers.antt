@@ -15,7 +15,7 @@ outputRoom = 2048
 abbrev pub outputSmall : ℕ
 outputSmall = 1
 
--- message not 14 to 2,048 bytes; payload over 2,035 − L
+-- message not 14 to 2,048 bytes; payload over 2,039 − L − T (02, No. 5)
 abbrev pub badLength : ℕ
 badLength = 2
 
@@ -23,11 +23,11 @@ badLength = 2
 abbrev pub badVersion : ℕ
 badVersion = 3
 
--- CS not 1 or 2
+-- CS not 1 or 2, nor 241 or 242 (02, No. 5)
 abbrev pub badSuite : ℕ
 badSuite = 4
 
--- message shorter than 9 + L + 4
+-- message shorter than 9 + L + T (02, No. 5)
 abbrev pub tooShort : ℕ
 tooShort = 5
 

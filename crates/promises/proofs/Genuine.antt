@@ -20,7 +20,7 @@ use Rattle.lookup.specs.declared.Found.{Found}
 use Rattle.lookup.specs.declared.Found.the-variants.{At, Nothing}
 use Rattle.slots.specs.Table.{csOf}
 use Rattle.promises.specs.Counted.{isOf, isGenuine}
-use Rattle.promises.specs.Replies.{noneOf, isNothing, icvIn, ledTo, slotIn, isAt, rightIn, receiveReplies}
+use Rattle.promises.specs.Replies.{noneOf, isNothing, ofSuite, isShort, ledTo, slotIn, isAt, rightIn, receiveReplies}
 use Rattle.promises.proofs.Reading.{headerIn, said-by-tests}
 use Rattle.promises.proofs.Held.{Held, names-facts, names-test, leads-here, leads-named}
 
@@ -77,4 +77,4 @@ module _ {k : KeyData} {i : ℕ} {t : List ℕ} (held : Held k i t) (m source : 
       let n = suiteOf (csIn m) in
       said-by-tests (λ p. isGenuine k p m source) m (noneAt f && isAt i f) (λ s q e. found (headerIn s m) e (suite-number (csIn m) s q) f refl)
       ∙ past-four (ltb (length m) leastMessage || ltb greatestMessage (length m)) (not (eqb (versionIn m) 0)) (not (known n))
-      (ltb (length m) (fixedBytes + lengthOf (keyIdIn m) + icvIn n)) (noneAt f) (isAt i f)
+      (ofSuite (isShort m) n) (noneAt f) (isAt i f)

@@ -16,7 +16,7 @@ use Rattle.format.specs.declared.header.Parsed.the-variants.{Read, BadLength, B
 use Rattle.format.specs.declared.suite.Numbered.{Numbered}
 use Rattle.format.specs.declared.suite.Numbered.the-variants.{Known, Unknown}
 use Rattle.format.specs.declared.suite.Suite.{Suite}
-use Rattle.promises.specs.Replies.{icvIn}
+use Rattle.promises.specs.Replies.{ofSuite, isShort}
 
 -- the header of a message of a suite
 abbrev pub headerIn : Suite → List ℕ → Header
@@ -25,7 +25,7 @@ headerIn s m = record { flag = flagIn m; suite = s; keyid = keyIdIn m; seqnum = 
 module _ {A : Type 0} (says : Parsed → A) (m : List ℕ) (rest : A)
     (read : (s : Suite) → Known s ≡ suiteOf (csIn m) → readOf m ≡ Read (headerIn s m) → says (Read (headerIn s m)) ≡ rest) where
   abbrev short : Numbered → Bool
-  short n = ltb (length m) (fixedBytes + lengthOf (keyIdIn m) + icvIn n)
+  short n = ofSuite (isShort m) n
 
   by-tests : (b v : Bool) (n : Numbered) → readOf m ≡ cond b BadLength (cond v (readAs n m) BadVersion) → n ≡ suiteOf (csIn m)
       → says (cond b BadLength (cond v (readAs n m) BadVersion))

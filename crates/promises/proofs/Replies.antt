@@ -13,12 +13,13 @@ use Rattle.window.specs.declared.Frame.{Frame}
 use Rattle.octets.specs.Octets.{put}
 use Rattle.answers.specs.Answers.{refused, outputRoom}
 use Rattle.format.specs.KeyData.{known, soundOf, KeyData}
-use Rattle.format.specs.Suite.{suiteOf, numberOf}
+use Rattle.format.specs.Suite.{suiteOf, numberOf, icvLengthOf}
 use Rattle.format.specs.Header.{payloadLength, csIn, seqNumIn, readOf, greatestMessage, fixedBytes}
 use Rattle.message.specs.Sealing.{right}
 use Rattle.message.specs.declared.sealing.Opened.the-variants.{Payload, Wrong}
 use Rattle.format.specs.declared.header.Header.{Header}
 use Rattle.format.specs.declared.header.Parsed.the-variants.{Read}
+use Rattle.format.specs.declared.suite.Suite.{Suite}
 use Rattle.format.specs.declared.suite.Numbered.{Numbered}
 use Rattle.format.specs.declared.suite.Numbered.the-variants.{Known, Unknown}
 use Rattle.listing.specs.Listing.{Listed, listed, listingOf}
@@ -43,7 +44,7 @@ use Rattle.sender.specs.declared.Sender.{Sender}
 use Rattle.format.proofs.Soundness.{sound-facts}
 use Rattle.format.proofs.Suites.{suite-number}
 use Rattle.promises.proofs.Reading.{headerIn, said-by-tests}
-use Rattle.promises.specs.Replies.{Reply, firstOf, testOf, earlier, noneFits, Exactly, isNumbered, distinct, isNothing, icvIn, ledTo, slotIn, rightIn, receiveReplies, installReplies, removeReplies, listingReplies, reportReplies, recordReplies, protectReplies}
+use Rattle.promises.specs.Replies.{Reply, firstOf, testOf, earlier, noneFits, Exactly, isNumbered, distinct, isNothing, ofSuite, isLong, ledTo, slotIn, rightIn, receiveReplies, installReplies, removeReplies, listingReplies, reportReplies, recordReplies, protectReplies}
 
 -- a choice between two, seen through a function or by the opposite test
 pushed : {A B : Type 0} (f : A → B) (b : Bool) (x y : A) → f (cond b x y) ≡ cond b (f x) (f y)
@@ -240,9 +241,13 @@ module _ (s : Sender) (payload out : List ℕ) where
   suite-there : soundRecord (s .keys) ≡ true → known (suiteOf (s .keys .suite)) ≡ true
   suite-there e = sound-facts (keyDataIn (s .keys)) (record-facts (s .keys) e .keys) .suite-known
 
+  -- what 2,048 bytes leave beside header and ICV
+  limit : (suite : Suite) → payloadLimit suite (s .keys) ≡ 2039 - length (keyDataIn (s .keys) .keyId) - icvLengthOf suite
+  limit suite = omega arith
+
   by-suite : (n : Numbered) → n ≡ suiteOf (s .keys .suite) → (b : Bool) → (soundRecord (s .keys) && ltb (s .current) (2 ^ 48)) ≡ b
       → cond b (numbered n s payload out) (refusal 7 s out) .answer .reply
-      ≡ cond (not b) 7 (cond (ltb (greatestMessage - (fixedBytes + length (keyDataIn (s .keys) .keyId) + icvIn n)) (length payload)) 2 (cond (eqb (s .current) (2 ^ 48 - 1)) 12 0))
+      ≡ cond (not b) 7 (cond (ofSuite (isLong s payload) n) 2 (cond (eqb (s .current) (2 ^ 48 - 1)) 12 0))
   unfolding sent
   by-suite n q false p = refl
   by-suite Unknown q true p =
@@ -250,7 +255,7 @@ module _ (s : Sender) (payload out : List ℕ) where
       cc
   by-suite (Known suite) q true p =
       pushed (λ (o : Outcome). o .answer .reply) (ltb (payloadLimit suite (s .keys)) (length payload)) _ _
-      ∙ ap (cond (ltb (payloadLimit suite (s .keys)) (length payload)) 2) (pushed (λ (o : Outcome). o .answer .reply) (eqb (s .current) (2 ^ 48 - 1)) _ _)
+      ∙ rw (limit suite) (ap (cond (isLong s payload suite) 2) (pushed (λ (o : Outcome). o .answer .reply) (eqb (s .current) (2 ^ 48 - 1)) _ _))
 
   pub protect-reply : outcomeOf s payload out .answer .reply ≡ firstOf (protectReplies s payload out)
   unfolding outcomeOf protectReplies

@@ -12,10 +12,11 @@ use Rattle.window.specs.declared.Frame.{Frame}
 use Rattle.format.specs.KeyId.{lengthOf}
 use Rattle.format.specs.KeyData.{known, soundOf, KeyData}
 use Rattle.format.specs.Suite.{suiteOf, icvLengthOf}
-use Rattle.format.specs.Header.{flagIn, versionIn, csIn, keyIdIn, seqNumIn, readOf, leastMessage, greatestMessage, fixedBytes}
+use Rattle.format.specs.Header.{flagIn, versionIn, csIn, keyIdIn, seqNumIn, readOf, leastMessage, greatestMessage}
 use Rattle.message.specs.Sealing.{right}
 use Rattle.format.specs.declared.header.Parsed.{Parsed}
 use Rattle.format.specs.declared.header.Parsed.the-variants.{Read, BadLength, BadVersion, BadSuite, TooShort}
+use Rattle.format.specs.declared.suite.Suite.{Suite}
 use Rattle.format.specs.declared.suite.Numbered.{Numbered}
 use Rattle.format.specs.declared.suite.Numbered.the-variants.{Known, Unknown}
 use Rattle.slots.specs.Table.{slotOf, occupied, csOf, windowOf, slotCount, keyDataOf}
@@ -79,10 +80,14 @@ isNothing Nothing = true
 
 -- ---- receive
 
--- the ICV's length: the suite's; and 01's four bytes where the number is no suite's, which is answered before the length is asked
-abbrev pub icvIn : Numbered → ℕ
-icvIn (Known s) = icvLengthOf s
-icvIn Unknown = 4
+-- what is asked of the suite with a number; where there is none, that was answered before
+abbrev pub ofSuite : (Suite → Bool) → Numbered → Bool
+ofSuite asked (Known s) = asked s
+ofSuite asked Unknown = false
+
+-- "shorter than 9 + L + T", where T is the length of the suite's ICV (02, No. 5)
+abbrev pub isShort : List ℕ → Suite → Bool
+isShort m s = ltb (length m) (9 + lengthOf (keyIdIn m) + icvLengthOf s)
 
 -- where a message leads
 abbrev pub ledTo : List ℕ → List ℕ → List ℕ → Found
@@ -115,10 +120,10 @@ receiveReplies t m source out =
     ∷ reply 2 (ltb (length m) leastMessage || ltb greatestMessage (length m))
     -- Version not 0
     ∷ reply 3 (not (eqb (versionIn m) 0))
-    -- CS not 1 or 2
+    -- CS not 1 or 2, nor 241 or 242 (02, No. 5)
     ∷ reply 4 (not (known (suiteOf (csIn m))))
-    -- message shorter than 9 + L + 4
-    ∷ reply 5 (ltb (length m) (fixedBytes + lengthOf (keyIdIn m) + icvIn (suiteOf (csIn m))))
+    -- message shorter than 9 + L + T
+    ∷ reply 5 (ofSuite (isShort m) (suiteOf (csIn m)))
     -- no slot matches
     ∷ reply 6 (isNothing (ledTo t m source))
     -- record damaged; "another edition, or 1 with a suite other than 1, gives .. 7 in a record" (02, No. 4)
@@ -187,14 +192,18 @@ recordReplies o file at =
 
 -- ---- protect
 
+-- "With ICV length T, payloads have at most 2,039 − L − T bytes." (02, No. 5)
+abbrev pub isLong : Sender → List ℕ → Suite → Bool
+isLong s payload suite = ltb (2039 - length (keyDataIn (s .keys) .keyId) - icvLengthOf suite) (length payload)
+
 unfoldable pub protectReplies : Sender → List ℕ → List ℕ → List Reply
 protectReplies s payload out =
     -- output buffer under 2,048 bytes
     reply 1 (ltb (length out) outputRoom)
     -- unsound key data, or current over 2^48 − 1
     ∷ reply 7 (not (soundRecord (s .keys) && ltb (s .current) (2 ^ 48)))
-    -- payload over 2,035 − L
-    ∷ reply 2 (ltb (greatestMessage - (fixedBytes + length (keyDataIn (s .keys) .keyId) + icvIn (suiteOf (s .keys .suite)))) (length payload))
+    -- payload over 2,039 − L − T
+    ∷ reply 2 (ofSuite (isLong s payload) (suiteOf (s .keys .suite)))
     -- current number is 2^48 − 1
     ∷ reply 12 (eqb (s .current) (2 ^ 48 - 1))
     ∷ []
