@@ -7,7 +7,7 @@ ghost use lib.ListN.{length};
 ghost use Rattle.octets.specs.Octets.{put};
 ghost use Rattle.magma.specs.Magma.{encrypted};
 ghost use Rattle.modes.specs.Modes.{magmaCheck, magmaCounter};
-ghost use Rattle.derivation.specs.Derivation.{keyFrom};
+ghost use Rattle.derivation.specs.Derivation.{checkKey, cipherKey};
 ghost use Rattle.format.specs.declared.suite.Suite.the-variants.{MagmaCtr, MagmaNull};
 use derivation::Purpose;
 use format::key_data;
@@ -71,31 +71,27 @@ pub extern "C" fn cipher_keys_1(
     source: &[u8; 12],
     seqnum: u64,
 ) -> BothKeys
-    ensures { λ r. ⌜ r .check ≡ keyFrom (now (base .entry)) MagmaCtr edition (now (source .entry)) seqnum 1 ⌝ }
-    ensures { λ r. ⌜ r .cipher ≡ keyFrom (now (base .entry)) MagmaCtr edition (now (source .entry)) seqnum 5 ⌝ }
+    ensures { λ r. ⌜ r .check ≡ checkKey (now (base .entry)) MagmaCtr edition (now (source .entry)) seqnum ⌝ }
+    ensures { λ r. ⌜ r .cipher ≡ cipherKey (now (base .entry)) MagmaCtr edition (now (source .entry)) seqnum ⌝ }
 {
     let subkeys = modes::subkeys_of(base);
+    let suite = Suite::MagmaCtr;
+    let first = derivation::cipher_first(suite);
     let purpose = Purpose {
-        suite: Suite::MagmaCtr,
+        suite,
         edition,
         seqnum,
     };
     BothKeys {
         check: derivation::derived_key(base, subkeys, purpose, source, derivation::CHECK),
-        cipher: derivation::derived_key(
-            base,
-            subkeys,
-            purpose,
-            source,
-            derivation::cipher_first(purpose.suite),
-        ),
+        cipher: derivation::derived_key(base, subkeys, purpose, source, first),
     }
 }
 
 // The key of suite 2 for a source of 12 bytes.
 #[no_mangle]
 pub extern "C" fn cipher_key_2(base: &[u32; 8], source: &[u8; 12], seqnum: u64) -> CheckKey
-    ensures { λ r. ⌜ r .check ≡ keyFrom (now (base .entry)) MagmaNull 2 (now (source .entry)) seqnum 1 ⌝ }
+    ensures { λ r. ⌜ r .check ≡ checkKey (now (base .entry)) MagmaNull 2 (now (source .entry)) seqnum ⌝ }
 {
     let subkeys = modes::subkeys_of(base);
     let purpose = Purpose {
