@@ -69,7 +69,7 @@ longest : (c : tie.After-icv-length)
 longest c = rw (keyid-length (at-else2 (c .before)), c .icv-length .ensures)
 
 fits : (c : tie.Else3) → length (start (at-else2 (c .before .before)) .args .payload .now) ≤ payloadLimit (suite-of (c .before .before)) (keys-of (at-else2 (c .before .before)))
-fits c = rw (longest (c .before)) at (c .if3 .left)
+fits c = omega (arith, longest (c .before), c .if3 .left)
 
 returns-2 : tie.Need-returns-2
 returns-2 c =
@@ -86,7 +86,7 @@ returns-4 : tie.Need-returns-4
 returns-4 c =
     let k = c .before .before .before in
     let e = at-else2 k in
-    refuses _ _ _ (too-long _ _ _ (room e) (sound e) (small e) (suite-of k) (known k) (rw (longest (c .before .before)) at (c .before .if3 .taken)))
+    refuses _ _ _ (too-long _ _ _ (room e) (sound e) (small e) (suite-of k) (known k) (omega (arith, longest (c .before .before), c .before .if3 .taken)))
     (c .refuse4 .ensures)
 
 returns-5 : tie.Need-returns-5

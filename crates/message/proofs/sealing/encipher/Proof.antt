@@ -1,8 +1,9 @@
 -- `message::sealing::encipher` meets its contract: counter mode under the cipher key where the suite enciphers, the payload itself where not.
 -- Assumes nothing.
 use mathlib.Core.Bool.{true, false}
-use mathlib.Core.Path.{_≡_, sym, _∙_}
+use mathlib.Core.Path.{_≡_, sym, ap, _∙_}
 use borrow.Author.Needs.{needs}
+use Rattle.derivation.specs.Derivation.{keyFrom, cipherKey}
 use Rattle.format.specs.Suite.{enciphers}
 use Rattle.message.specs.Sealing.{enciphered}
 use Rattle.message.proofs.sealing.encipher.Statement.{statement}
@@ -14,8 +15,12 @@ returns c =
     let key = c .before .before .before .before .before .before in
     let first = key .before in
     let test = first .before in
-    let on : enciphers (test .before .before .before .before .before .args .purpose .suite) ≡ true = sym (test .before .enciphers .ensures) ∙ test .if1 .taken in
-    rw (c .before .before .counter .ensures, key .derived-key .ensures, first .cipher-first .ensures, on)
+    let a = test .before .before .before .before .before .args in
+    let p = a .purpose in
+    let on : enciphers (p .suite) ≡ true = sym (test .before .enciphers .ensures) ∙ test .if1 .taken in
+    let made : key .derived-key .result ≡ cipherKey (a .base .now) (p .suite) (p .edition) (a .source .now) (p .seqnum) =
+    key .derived-key .ensures ∙ ap (keyFrom (a .base .now) (p .suite) (p .edition) (a .source .now) (p .seqnum)) (first .cipher-first .ensures) in
+    rw (c .before .before .counter .ensures, made, on)
 
 returns-2 : tie.Need-returns-2
 unfolding enciphered
