@@ -48,8 +48,8 @@ extern "C" {
 /* Bytes of a table, and its slots. A table of zeros is an empty one. It may be kept and saved as it is (see "Keys" below). Any bytes are safe to
  * hand in: a record that breaks the damage rule (unsound key data, Size or start, a highest number and marks that do not fit each other, totals
  * beyond their bounds) is refused with 7; one whose stored KeyId or source is longer than its room matches no message, which is then refused
- * with 6 unless another entry has its name. Other changes, of a byte of a key, from one edition to the other or of a total within its bounds, are
- * not noticed: whoever saves a table sees to it that it comes back as it was. */
+ * with 6 unless another entry has its name. Other changes, of a byte of a key, to another suite or edition that is sound, or of a total within its
+ * bounds, are not noticed: whoever saves a table sees to it that it comes back as it was. */
 #define CRISP_TABLE 4608
 #define CRISP_SLOTS 16
 
