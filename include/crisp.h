@@ -59,7 +59,7 @@ extern "C" {
 /* The suites. A message ends with its check value, of four bytes in the first two and of eight in the long ones; in all else 241 is as 1, and 242 as 2.
  *
  * Which to take: a forged message passes by luck once in 2^32 tries where the check value has four bytes, and once in 2^64 where it has eight, as far as
- * the cipher is a good one. Eight make each message four bytes longer and take no more time. Sender and entry must have the same suite, for a message of
+ * the cipher is a good one. Eight make each message four bytes longer and take about as long. Sender and entry must have the same suite, for a message of
  * another is refused (8): so nobody can turn a long check value into a short one, which would be easier to guess. */
 #define CRISP_MAGMA_CTR 1               /* MAGMA-CTR-CMAC: the payload is enciphered */
 #define CRISP_MAGMA_NULL 2              /* MAGMA-NULL-CMAC: the payload stays in clear */

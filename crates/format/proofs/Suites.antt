@@ -12,7 +12,7 @@ use Rattle.format.specs.Suite.{numberOf, suites, numberedIn, suiteOf, ic
 use Rattle.format.specs.Header.{leastMessage, fixedBytes}
 use Rattle.format.specs.declared.suite.Suite.{Suite}
 use Rattle.format.specs.declared.suite.Suite.the-variants.{MagmaCtr, MagmaNull, MagmaCtrLong, MagmaNullLong}
-use Rattle.format.specs.declared.suite.Numbered.the-variants.{Known, Unknown}
+use Rattle.format.specs.declared.suite.Numbered.the-variants.{Known}
 
 -- ---- numbers
 

@@ -3,14 +3,13 @@
 use mathlib.Core.Path.{_≡_, refl, sym, ap, _∙_}
 use mathlib.Core.Bool.{Bool, true, false, true≢false, cond, not, _&&_, _||_, and-false}
 use mathlib.Core.List.{List, [], _∷_}
-use Prim.Native.Nat.{ℕ, _+_}
+use Prim.Native.Nat.{ℕ}
 use borrow.Author.Tests.{eq-eqb, ne-eqb}
 use lib.Dec.{eqb, ltb}
 use lib.ListN.{length}
 use Rattle.format.specs.KeyData.{KeyData, known}
-use Rattle.format.specs.KeyId.{lengthOf}
 use Rattle.format.specs.Suite.{suiteOf, numberOf}
-use Rattle.format.specs.Header.{versionIn, csIn, keyIdIn, readOf, keyIdBytes, leastMessage, greatestMessage, fixedBytes}
+use Rattle.format.specs.Header.{versionIn, csIn, readOf, keyIdBytes, leastMessage, greatestMessage}
 use Rattle.format.specs.declared.header.Header.{Header}
 use Rattle.format.specs.declared.header.Parsed.the-variants.{Read}
 use Rattle.format.proofs.Suites.{suite-number}

@@ -14,7 +14,7 @@ use Rattle.octets.specs.Octets.{put}
 use Rattle.answers.specs.Answers.{refused, outputRoom}
 use Rattle.format.specs.KeyData.{known, soundOf, KeyData}
 use Rattle.format.specs.Suite.{suiteOf, numberOf, icvLengthOf}
-use Rattle.format.specs.Header.{payloadLength, csIn, seqNumIn, readOf, greatestMessage, fixedBytes}
+use Rattle.format.specs.Header.{payloadLength, csIn, seqNumIn, readOf}
 use Rattle.message.specs.Sealing.{right}
 use Rattle.message.specs.declared.sealing.Opened.the-variants.{Payload, Wrong}
 use Rattle.format.specs.declared.header.Header.{Header}
