@@ -1,6 +1,8 @@
 /* peer.c: checks the lines of emit.c by OpenSSL's gost engine, a peer that we did not write. Of a whole message it takes the key data, the number and the
  * payload, and makes the message itself from documents 01 and 02, with no cipher, counter mode or check value but the engine's. Runs on the machine
- * itself, not in the emulator. */
+ * itself, not in the emulator.
+ *
+ *   peer [LINES]        with a number, so many lines of any kind; else all that emit.c prints */
 #define OPENSSL_SUPPRESS_DEPRECATED
 #include <openssl/engine.h>
 #include <openssl/evp.h>
@@ -173,7 +175,7 @@ static size_t message_line(void)
     return made.n;
 }
 
-int main(void)
+int main(int argc, char **argv)
 {
     static char line[16384];
     size_t lines = 0;
@@ -191,11 +193,11 @@ int main(void)
         }
     }
     printf("peer: %zu check values, %zu texts in counter mode, and whole messages", checks, counters);
-    int missing = checks != 2048 || counters != 2048;
+    int missing = argc == 1 && (checks != 2048 || counters != 2048);
     for (int k = 0; k < KINDS; k++) {
         printf(", %zu of suite %d in edition %d", messages[k], kinds[k].suite, kinds[k].edition);
-        missing |= messages[k] != 256;
+        missing |= argc == 1 && messages[k] != 256;
     }
     printf(", agree with OpenSSL's gost engine\n");
-    return missing;
+    return missing || (argc > 1 && lines != strtoull(argv[1], NULL, 10));
 }
