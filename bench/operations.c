@@ -245,9 +245,9 @@ static int receive_old(uint64_t n) { return receives(&old_a_1, 37, 0, -1, n, 0);
 static int receive_a_2(uint64_t n) { return receives(&a_2, 37, 0, -1, n, 0); }
 static int receive_long_1(uint64_t n) { return receives(&long_a_1, 37, 0, -1, n, 0); }
 static int receive_long_2(uint64_t n) { return receives(&long_a_2, 37, 0, -1, n, 0); }
-static int receive_2048_1(uint64_t n) { return receives(&a_1, 2034, 0, -1, n, 0); }
-static int receive_2048_2(uint64_t n) { return receives(&a_2, 2034, 0, -1, n, 0); }
-static int receive_2048_long(uint64_t n) { return receives(&long_a_1, 2030, 0, -1, n, 0); }
+static int receive_2048_1(uint64_t n) { return receives(&a_1, CRISP_PAYLOAD_OF(1, CRISP_MAGMA_CTR), 0, -1, n, 0); }
+static int receive_2048_2(uint64_t n) { return receives(&a_2, CRISP_PAYLOAD_OF(1, CRISP_MAGMA_NULL), 0, -1, n, 0); }
+static int receive_2048_long(uint64_t n) { return receives(&long_a_1, CRISP_PAYLOAD_OF(1, CRISP_MAGMA_CTR_LONG), 0, -1, n, 0); }
 static int receive_slot_15(uint64_t n) { return receives(&a_1, 37, 15, -1, n, 0); }
 static int refuse_version(uint64_t n) { return receives(&a_1, 37, 0, 1, n, 3); }
 static int refuse_no_entry(uint64_t n) { return receives(&a_1, 37, 0, 3, n, 6); }
@@ -260,9 +260,9 @@ static int protect_old(uint64_t n) { return protects(&old_a_1, 37, n); }
 static int protect_a_2(uint64_t n) { return protects(&a_2, 37, n); }
 static int protect_long_1(uint64_t n) { return protects(&long_a_1, 37, n); }
 static int protect_long_2(uint64_t n) { return protects(&long_a_2, 37, n); }
-static int protect_2048_1(uint64_t n) { return protects(&a_1, 2034, n); }
-static int protect_2048_2(uint64_t n) { return protects(&a_2, 2034, n); }
-static int protect_2048_long(uint64_t n) { return protects(&long_a_1, 2030, n); }
+static int protect_2048_1(uint64_t n) { return protects(&a_1, CRISP_PAYLOAD_OF(1, CRISP_MAGMA_CTR), n); }
+static int protect_2048_2(uint64_t n) { return protects(&a_2, CRISP_PAYLOAD_OF(1, CRISP_MAGMA_NULL), n); }
+static int protect_2048_long(uint64_t n) { return protects(&long_a_1, CRISP_PAYLOAD_OF(1, CRISP_MAGMA_CTR_LONG), n); }
 static int forget(uint64_t n)
 {
     while (n--) crisp_forget();
