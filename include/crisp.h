@@ -56,10 +56,11 @@ extern "C" {
 /* Room that crisp_receive, crisp_protect and crisp_listing ask of an output: as much as the longest message has. */
 #define CRISP_OUT 2048
 
-/* The suites. A message ends with its check value, of four bytes in the first two and of eight in the long ones; in all else 241 is as 1, and 242 as 2.
+/* The suites. A message ends with its check value, of four bytes in the first two and of eight in the long ones. Else 241 is as 1, and 242 as 2, but
+ * that each has its own number in the message and in what keys are derived from, and that edition 1 goes with suite 1 alone.
  *
  * Which to take: a forged message passes by luck once in 2^32 tries where the check value has four bytes, and once in 2^64 where it has eight, as far as
- * the cipher is a good one. Eight make each message four bytes longer and take about as long. Sender and entry must have the same suite, for a message of
+ * the cipher and its check value are good ones. Eight make each message four bytes longer and take about as long. Sender and entry must have the same suite, for a message of
  * another is refused (8): so nobody can turn a long check value into a short one, which would be easier to guess. */
 #define CRISP_MAGMA_CTR 1               /* MAGMA-CTR-CMAC: the payload is enciphered */
 #define CRISP_MAGMA_NULL 2              /* MAGMA-NULL-CMAC: the payload stays in clear */

@@ -7,6 +7,7 @@
  *   captures lines ORDER               the length and the bytes of its records, as those tools should find them */
 #include "random.h"
 #include "reference.h"
+#include "suites.h"
 #include <stdio.h>
 #include <stdlib.h>
 #include <string.h>
@@ -118,7 +119,6 @@ static int keeps;
 static void make_table(void)
 {
     static const uint8_t firsts[ENTRIES] = {0x05, 0x81, 0x80, 0x7f, 0xff, 0x00};
-    static const uint8_t suites[] = {CRISP_MAGMA_CTR, CRISP_MAGMA_NULL, CRISP_MAGMA_CTR_LONG, CRISP_MAGMA_NULL_LONG};
     memset(table, 0, CRISP_TABLE);
     keeps = 0;
     for (int i = 0; i < ENTRIES; i++) {
@@ -129,11 +129,11 @@ static void make_table(void)
         s->flag = firsts[i] == 0x80 ? 1 : (uint8_t)below(2);
         s->source_len = 4 + below(29);
         fill(s->source, s->source_len);
-        s->suite = suites[below(4)];
-        s->edition = s->suite == 1 ? (uint8_t)(1 + below(2)) : 2;
+        s->suite = suites[below(EVERY_SUITE)];
+        s->edition = s->suite == CRISP_MAGMA_CTR ? (uint8_t)(1 + below(2)) : 2;
         fill(s->key, 32);
         s->current = below(3) ? below(8) : (1ULL << 48) - 20;
-        uint8_t suite = below(8) ? s->suite : suites[below(4)];                 /* some entries have another suite, */
+        uint8_t suite = below(8) ? s->suite : suites[below(EVERY_SUITE)];       /* some entries have another suite, */
         uint8_t edition = suite != CRISP_MAGMA_CTR ? 2 : below(8) ? s->edition : (uint8_t)(3 - s->edition);
         uint64_t start = below(4) ? 0 : s->current + below(8);                  /* some the other edition, and some a start */
         (void)crisp_install(table, s->flag, s->keyid, s->keyid_len, s->source, s->source_len, suite, edition, s->key, 32, 1 + below(8), start).reply;

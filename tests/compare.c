@@ -6,6 +6,7 @@
 #include "crisp.h"
 #include "random.h"
 #include "reference.h"
+#include "suites.h"
 #include <stdarg.h>
 #include <stdio.h>
 #include <stdlib.h>
@@ -107,7 +108,6 @@ static int keeps;
 static void make_senders(void)
 {
     static const uint8_t firsts[] = {0x05, 0x81, 0x80, 0x7f, 0x83, 0xff, 0x00, 0x90};
-    static const uint8_t suites[] = {CRISP_MAGMA_CTR, CRISP_MAGMA_NULL, CRISP_MAGMA_CTR_LONG, CRISP_MAGMA_NULL_LONG};
     static const uint64_t widths[] = {1, 2, 4, 63, 64, 65, 128, 255, 256};
     for (int i = 0; i < ENTRIES; i++) {
         struct crisp_sender *s = &senders[i];
@@ -119,8 +119,8 @@ static void make_senders(void)
         s->flag = s->keyid[0] == 0x80 ? 1 : (uint8_t)below(2);
         s->source_len = 4 + below(29);
         fill(s->source, s->source_len);
-        s->suite = suites[below(4)];
-        s->edition = s->suite == 1 ? (uint8_t)(1 + below(2)) : 2;
+        s->suite = suites[below(EVERY_SUITE)];
+        s->edition = s->suite == CRISP_MAGMA_CTR ? (uint8_t)(1 + below(2)) : 2;
         fill(s->key, 32);
         s->current = below(4) ? below(8) : below(2) ? CRISP_LAST - below(6) : below(CRISP_LAST);
         editions[i] = below(8) ? s->edition : (uint8_t)(3 - s->edition);
@@ -477,11 +477,11 @@ static void sweep_payloads(int i)
  * two and of 128 bytes: senders 8, 9 and 13 are of suite 241, and 16, 17 and 21 of suite 242. */
 static void make_swept(void)
 {
-    static const uint8_t suites[] = {1, 1, 2, 1}, in_editions[] = {1, 2, 2, 1};
+    static const uint8_t in_suites[] = {1, 1, 2, 1}, in_editions[] = {1, 2, 2, 1};
     make_senders();
     for (int i = 0; i < ENTRIES; i++) {
         senders[i].current = 5;
-        senders[i].suite = i < 8 ? suites[i / 2] : i < 16 ? CRISP_MAGMA_CTR_LONG : CRISP_MAGMA_NULL_LONG;
+        senders[i].suite = i < 8 ? in_suites[i / 2] : i < 16 ? CRISP_MAGMA_CTR_LONG : CRISP_MAGMA_NULL_LONG;
         senders[i].edition = editions[i] = i < 8 ? in_editions[i / 2] : 2;
         starts[i] = i % 2 ? 6 - (uint64_t)i / 4 : 0;
     }

@@ -4,6 +4,7 @@
  * those that have one gamma in edition 1. Prints one line, or what does not hold. */
 #include "crisp.h"
 #include "random.h"
+#include "suites.h"
 #include <stdio.h>
 #include <stdlib.h>
 #include <string.h>
@@ -110,9 +111,8 @@ static void refuses(uint8_t suite, uint8_t edition)
 
 static void refuse_all(void)
 {
-    static const uint8_t suites[] = {CRISP_MAGMA_CTR, CRISP_MAGMA_NULL, CRISP_MAGMA_CTR_LONG, CRISP_MAGMA_NULL_LONG};
     for (int edition = 0; edition < 256; edition++)
-        for (size_t i = 0; i < sizeof suites; i++)
+        for (size_t i = 0; i < EVERY_SUITE; i++)
             if (edition != 2 && !(edition == 1 && suites[i] == CRISP_MAGMA_CTR)) refuses(suites[i], (uint8_t)edition);
 }
 

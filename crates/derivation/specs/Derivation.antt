@@ -1,4 +1,4 @@
--- Derived keys (01, "Suites and derived keys"; 000, 7.1.3, 7.1.4 and 7.2.2; 02, No. 4, on SN).
+-- Derived keys (01, "Suites and derived keys"; 000, 7.1.3, 7.1.4 and 7.2.2; 02, No. 4, on SN, and No. 5, on CS).
 use mathlib.Core.Bool.{cond}
 use mathlib.Core.List.{List, [], _∷_, _++_}
 use Prim.Native.Nat.{ℕ, zero, suc, _+_, _/_, _%_, _^_}

@@ -32,7 +32,7 @@ pub fn cipher_first(suite: Suite) -> u8
     CHECK + suite.key_blocks()
 }
 
-// The key that the four blocks from `first` on make. The subkeys are the base key's.
+// The key that the blocks from `first` on make, four of Magma's. The subkeys are the base key's.
 pub fn derived_key(
     base: &[u32; 8],
     subkeys: Subkeys,

@@ -1,5 +1,5 @@
 -- Suites (01, "Suites and derived keys": "Each suite has its own ICV length, label and block count."; 02, No. 5: "241 is suite 1 and 242 is suite 2, with
--- an ICV of 8 bytes and their own number as CS").
+-- an ICV of 8 bytes and their own number as CS, in the derivation too").
 use mathlib.Core.Bool.{Bool, true, false, cond}
 use mathlib.Core.List.{List, [], _∷_}
 use Prim.Native.Nat.{ℕ, _*_, _/_}

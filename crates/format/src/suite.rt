@@ -59,6 +59,7 @@ impl Suite {
         }
     }
 
+    // How many bytes of the check value end a message.
     pub fn icv_length(self) -> usize
         ensures { λ r. ⌜ r ≡ icvLengthOf self ⌝ }
     {
@@ -70,6 +71,7 @@ impl Suite {
         }
     }
 
+    // Whether the payload is enciphered. Label and block count follow from it.
     pub fn enciphers(self) -> bool
         ensures { λ r. ⌜ r ≡ enciphers self ⌝ }
     {
@@ -116,6 +118,7 @@ impl Suite {
         }
     }
 
+    // The bits of all blocks together.
     pub fn output_bits(self) -> u64
         ensures { λ r. ⌜ r ≡ outputBitsOf self ⌝ }
     {
