@@ -1,7 +1,7 @@
 /* crisp.h: the receiver and the sender for the metering messages of a heat network (R 1323565.1.029-2019: its suites 1 and 2, and two of the house,
  * 241 and 242, with a longer check value), for C and C++ on x86-64.
  *
- * `./install PREFIX` builds libcrisp_c.a and puts it below PREFIX with this header and a pkg-config file, `crisp`. The seven functions are proved;
+ * `./install PREFIX` builds libcrisp_c.a and puts it below PREFIX with this header and a pkg-config file, `crisp`. The eight functions are proved;
  * what each answers, what it leaves in the table or the record, and every byte of a buffer it was lent are those of one definition of its inputs
  * (docs/PROMISES.md).
  *
@@ -29,7 +29,7 @@ extern "C" {
 
 /* The interface's version, 100 times the major one plus the minor one: the first is raised where a call of before has to be written anew or means
  * something else, the second where something was added. */
-#define CRISP_VERSION 301
+#define CRISP_VERSION 302
 
 /* The version of the two layouts, the table's and the record's, raised where a place moves or gets another meaning. Keep it beside a saved table or
  * record: another layout's bytes are read as something else.
@@ -42,7 +42,8 @@ extern "C" {
  * it has another start, which that version does not look at.
  *
  * Suites 241 and 242 came with version 3.1 and moved nothing. Back in version 3.0 or earlier they are unsound: an entry or a record with one of them is
- * refused there with 7, and a message of theirs with 4. */
+ * refused there with 7, and a message of theirs with 4. crisp_load came with version 3.2 and moved nothing either: a table that it wrote in goes back to
+ * version 3.1. */
 #define CRISP_LAYOUT 2
 
 /* Bytes of a table, and its slots. A table of zeros is an empty one. It may be kept and saved as it is (see "Keys" below). Any bytes are safe to
@@ -119,7 +120,10 @@ enum {
     CRISP_BAD_CAPTURE = 17,     /* a capture's header is bad, or its size is not 24 to 65,536 bytes */
     CRISP_CUT_SHORT = 18,       /* a record's header or data runs past the capture's end */
     CRISP_LENGTHS_DIFFER = 19,  /* a record's captured and original length differ */
-    CRISP_UNREADABLE = 20       /* a record is empty, or its identifier runs past it */
+    CRISP_UNREADABLE = 20,      /* a record is empty, or its identifier runs past it */
+    CRISP_BAD_TEXT = 21,        /* a text is not in the form of a listing */
+    CRISP_NOT_STANDING = 22,    /* the listed entry is not in its slot, or has accepted something */
+    CRISP_WOULD_BE_DAMAGED = 23 /* the listed highest number, marks and totals would make a damaged record, or its key data does */
 };
 
 /* What every function on a table or a record answers. */
@@ -222,14 +226,15 @@ CRISP_CHECK(crisp_record_is_laid_out_as_in_the_library,
  * decimal, and `highest=`, in hex, of a listing that was made after its last arrival). Then nothing that was handed out there is handed out here.
  * Left at 0 on a replacement gateway, the whole archive passes once more: each old message is genuine, its number is new to this table, and it is
  * booked a second time. A message below start that the old entry never took is refused too (9), so let the old gateway first take what is under
- * way. Where its highest number is not known, or is CRISP_LAST, take a new key. */
+ * way. Where its highest number is not known, or is CRISP_LAST, take a new key. Where the entry comes into its old slot with its old size and start,
+ * crisp_load does better with the same listing: the window comes along, and what is under way still passes. */
 CRISP_CALL CRISP_READS(3, 4) CRISP_READS(5, 6) CRISP_READS(9, 10)
 struct crisp_answer crisp_install(uint8_t table[CRISP_AT_LEAST CRISP_TABLE], uint8_t flag, const uint8_t *keyid, size_t keyid_len,
                                   const uint8_t *source, size_t source_len, uint8_t suite, uint8_t edition, const uint8_t *key, size_t key_len,
                                   uint64_t size, uint64_t start);
 
 /* Frees a slot, which then holds zeros only; the entry's history is over, its highest number with it: list it first where the key is to be
- * installed again. Done (0): slot is the slot freed. Refuses with 16 (slot over 15, or free). Touches no other slot. */
+ * installed again, for its start or for crisp_load. Done (0): slot is the slot freed. Refuses with 16 (slot over 15, or free). Touches no other slot. */
 CRISP_CALL
 struct crisp_answer crisp_remove(uint8_t table[CRISP_AT_LEAST CRISP_TABLE], size_t slot);
 
@@ -241,7 +246,7 @@ struct crisp_answer crisp_remove(uint8_t table[CRISP_AT_LEAST CRISP_TABLE], size
  *
  * Save the table before the payload is used, and in the same file what is to become of the payload. After a restart, a table older than what was
  * used takes the same message as new; and one that was saved without the payload refuses it as repeated. examples/kept.c among the sources does
- * so. */
+ * so. A gateway that has its key data from elsewhere may save the listing of the message's entry in the table's place (crisp_load). */
 CRISP_CALL CRISP_READS(2, 3) CRISP_READS(4, 5) CRISP_WRITES(6, 7)
 struct crisp_answer crisp_receive(uint8_t table[CRISP_AT_LEAST CRISP_TABLE], const uint8_t *message, size_t message_len, const uint8_t *source,
                                   size_t source_len, uint8_t *out, size_t out_len);
@@ -261,6 +266,30 @@ struct crisp_answer crisp_protect(struct crisp_sender *sender, const uint8_t *pa
 CRISP_CALL CRISP_WRITES(3, 4)
 struct crisp_answer crisp_listing(const uint8_t table[CRISP_AT_LEAST CRISP_TABLE], size_t slot, uint8_t *out, size_t out_len);
 
+/* Loads a listing back: the entry that it lists, which was installed anew and has accepted nothing yet, takes the listed highest number, marks and
+ * totals, so that after a restart its window is as it was. Done (0): slot is the entry's; a listing of it is the text again. What was accepted before
+ * the text was made is refused (10, or 9 below the window), and the totals go on from the listed ones. Touches nothing else of the slot, and no other
+ * slot. Refuses, in that order, with
+ *   21  where the text is not in the form that crisp_listing writes: the twelve lines in their order, each ended by one line feed, nothing behind the
+ *       last, no spaces; decimals without leading zeros and at most 2^64 - 1; hex in lower case, 12 digits of `highest=` and 64 of `marks=`, of `keyid=`
+ *       and `source=` any even count;
+ *   22  where no such entry stands: the slot is over 15 or free, or its flag, KeyId, source, suite, edition, size or start is another, or it has
+ *       accepted a message, or its stored KeyId or source is longer than its room;
+ *   23  where the record would be damaged, as CRISP_TABLE says above, by what is listed or by key data that is unsound already.
+ * Any bytes of any length are safe to hand in.
+ *
+ * A listing holds no key: first install the entry with its key data, size and start, into the slot that is listed. Installs take the lowest free slot,
+ * so install in the slots' order, and where one in between was free, put an entry there that is removed afterwards. Whether the key is the old one
+ * cannot be seen: with another one each message is refused afterwards with 11. Only an entry that has accepted nothing takes a listing; where it took a
+ * wrong one, remove it and install it again. A listing by version 1 or 2 has no line `edition=`, and one by version 1 no `start=`, so it is refused with
+ * 21: it loads once `edition=2` was put behind `suite=`, and `start=0` behind `size=`.
+ *
+ * An old text is as bad as an old table: each message that was accepted after it was made passes once more. So list after the last arrival, save the
+ * text before the payload is used, and in the same file what is to become of the payload. Nothing in the text shows that it was changed. Whoever can
+ * change it can open the window to old messages, or shut it to true ones: keep it as safe as the table, though it tells no key. */
+CRISP_CALL CRISP_READS(2, 3)
+struct crisp_answer crisp_load(uint8_t table[CRISP_AT_LEAST CRISP_TABLE], const uint8_t *text, size_t text_len);
+
 /* Captures: classic pcap of up to CRISP_CAPTURE bytes, microsecond magic a1b2c3d4 in either byte order, version 2.4, link type 147. A record's data is
  * one byte with the length of the source, the source, and the message. The two functions read a file that is in memory, whatever its bytes, and
  * change nothing. A gateway hands each record with reply 0 to crisp_receive, in the file's order, and passes over those with 19 and 20:
@@ -273,7 +302,7 @@ struct crisp_answer crisp_listing(const uint8_t table[CRISP_AT_LEAST CRISP_TABLE
  *
  * Where a record runs past the end, its reply 18 is the last before CRISP_END. What was received before it stands. A file that is read once more,
  * whatever other files came in between, hands out nothing, unless entries were installed or removed since; an entry that is installed with a start
- * above the file's numbers hands out nothing of it either. examples/capture.c among the sources reads a file so.
+ * above the file's numbers, or has loaded a listing from after the file was read, hands out nothing of it either. examples/capture.c among the sources reads a file so.
  *
  * The first answers the order of the file's numbers, 1 (highest byte first) or 2 (lowest), or 17 (header bad, or size not 24 to 65,536 bytes). Hand
  * the order to the second as it came. */

@@ -12,10 +12,11 @@
 #include <stdlib.h>
 #include <string.h>
 
-enum { ENTRIES = 24, KEPT = 64, ROOM = 2304 };
+enum { ENTRIES = 24, KEPT = 64, PRINTED = 16, ROOM = 2304 };
 
-/* of a slot: its bytes, and where suite, edition, Size and start stand in it */
-enum { SLOT = CRISP_TABLE / CRISP_SLOTS, SUITE = 2, EDITION = 3, SIZE = 198, START = 206 };
+/* of a slot: its bytes, and where its parts stand in it */
+enum { SLOT = CRISP_TABLE / CRISP_SLOTS, FLAG = 1, SUITE = 2, EDITION = 3, KEYID_LEN = 4, KEYID = 5, SOURCE_LEN = 133, SOURCE = 134, KEY = 166,
+       SIZE = 198, START = 206 };
 
 /* a suite with these bits changed is the one that has the other length of check value: 1 and 241, 2 and 242 */
 enum { OTHER_LENGTH = 0xf0 };
@@ -38,7 +39,8 @@ static void say(const char *format, ...)
 static void say_bytes(const char *name, const uint8_t *p, size_t n)
 {
     say(" %s=", name);
-    for (size_t i = 0; i < n; i++) say("%02x", p[i]);
+    for (size_t i = 0; i < n && traced + 2 < sizeof trace; i++)
+        trace[traced++] = "0123456789abcdef"[p[i] >> 4], trace[traced++] = "0123456789abcdef"[p[i] & 15];
 }
 
 /* ---- both sides */
@@ -46,9 +48,14 @@ static void say_bytes(const char *name, const uint8_t *p, size_t n)
 static uint8_t table[CRISP_TABLE], ref_table[CRISP_TABLE];
 static uint8_t out[ROOM], ref_out[ROOM];
 
-enum call { INSTALL, REMOVE, RECEIVE, PROTECT, LISTING, CALLS };
-static const char *const call_names[CALLS] = {"install", "remove", "receive", "protect", "listing"};
-static uint64_t replies[CALLS][17], compared;
+enum call { INSTALL, REMOVE, RECEIVE, PROTECT, LISTING, LOAD, CALLS };
+static const char *const call_names[CALLS] = {"install", "remove", "receive", "protect", "listing", "load"};
+enum { REPLIES = 24 };
+static uint64_t replies[CALLS][REPLIES], compared;
+static struct crisp_answer answered;            /* the last call's */
+
+/* all but those on captures */
+static int is_reply(uint64_t reply) { return reply <= 16 || (reply >= 21 && reply < REPLIES); }
 
 /* what starts did: kept by an install, refused by one; messages refused with 9 or 7 that would have met another reply with start 0 */
 enum start { KEPT_START, REFUSED_START, BELOW_START, DAMAGED_START, STARTS };
@@ -67,6 +74,27 @@ enum suite { LONG_KEPT, LONG_TAKEN, LONG_SENT, CUT_SHORT, TOO_LONG, NOT_ITS_LENG
 static const char *const suite_names[SUITES] = {"long kept", "long taken", "long sent", "cut short", "payload too long", "other length", "edition 1"};
 static uint64_t by_suite[SUITES];
 
+/* loads that were refused for one thing alone, which was changed in a text that would have been loaded, or in the entry: with 21 by the form, with 22 by
+ * what tells the entry, with 23 by the record */
+enum form { BYTE, CUT, LINE, DECIMAL, HEX, BEHIND, FORMS };
+static const char *const form_names[FORMS] = {"a byte", "cut", "a line", "a decimal", "hex", "behind it"};
+static uint64_t by_form[FORMS];
+enum entry { OF_SLOT, OF_FLAG, OF_KEYID, OF_SOURCE, OF_SUITE, OF_EDITION, OF_SIZE, OF_START, NOT_FRESH, FREED, LONG_KEYID, LONG_SOURCE, ENTRY };
+static const char *const entry_names[ENTRY] = {"slot", "flag", "KeyId", "source", "suite", "edition", "Size", "start", "accepted", "freed", "long KeyId",
+                                               "long source"};
+static uint64_t by_entry[ENTRY];
+enum record { OUTSIDE_WINDOW, UNDER_START, UNDER_ZERO, UNMARKED, FEW, MANY, MANY_BYTES, KEY_DATA, RECORD };
+static const char *const record_names[RECORD] = {"mark below the window", "below start", "below 0", "highest unmarked", "accepted too few", "too many",
+                                                 "bytes", "key data"};
+static uint64_t by_record[RECORD];
+
+/* what loads did: the entry's own listing, and an older one, loaded; any that was printed before, loaded and refused; another slot's with this slot's number;
+ * texts that no listing was, loaded; and restarts, with the calls that were compared after them */
+enum load { OWN, OLDER, ANY, ANY_REFUSED, OTHERS, MADE, RESTARTS, LOADED_THERE, AFTERWARDS, LOADS };
+static const char *const load_names[LOADS] = {"own", "older", "any", "any refused", "another slot's", "made", "restarts", "loads in them",
+                                              "calls after them"};
+static uint64_t by_load[LOADS];
+
 static void differs(const char *what)
 {
     printf("compare: %s differs after\n%.*s\n", what, (int)(traced < sizeof trace ? traced : sizeof trace), trace);
@@ -78,11 +106,12 @@ static void agree(enum call call, struct crisp_answer a, struct crisp_answer b)
     say(" -> %llu %zu %zu %llu, and the other %llu %zu %zu %llu\n", (unsigned long long)a.reply, a.length, a.slot, (unsigned long long)a.seqnum,
         (unsigned long long)b.reply, b.length, b.slot, (unsigned long long)b.seqnum);
     if (a.reply != b.reply || a.length != b.length || a.slot != b.slot || a.seqnum != b.seqnum) differs("the answer");
-    if (a.reply > 16) differs("a reply that is not listed");
+    if (!is_reply(a.reply)) differs("a reply that is not listed");
     if (memcmp(table, ref_table, CRISP_TABLE)) differs("the table");
     if (memcmp(out, ref_out, ROOM)) differs("the output");
     replies[call][a.reply]++;
     compared++;
+    answered = a;
 }
 
 static void same_outputs(void)
@@ -104,6 +133,13 @@ struct message {
 };
 static struct message kept[KEPT];
 static int keeps;
+
+struct text {
+    uint8_t bytes[1 << 12];
+    size_t length;
+};
+static struct text printed[PRINTED];            /* by listings */
+static int prints;
 
 static void make_senders(void)
 {
@@ -129,7 +165,7 @@ static void make_senders(void)
         if (starts[i] > CRISP_LAST) starts[i] = CRISP_LAST;
     }
     memcpy(ref_senders, senders, sizeof senders);
-    keeps = 0;
+    keeps = prints = 0;
 }
 
 /* ---- the calls */
@@ -223,6 +259,19 @@ static void call_listing(size_t slot, size_t room)
     same_outputs();
     struct crisp_answer a = crisp_listing(table, slot, out, room);
     agree(LISTING, a, ref_listing(ref_table, slot, ref_out, room));
+    if (a.reply) return;
+    struct text *t = &printed[prints++ % PRINTED];
+    memcpy(t->bytes, out, a.length);
+    t->length = a.length;
+}
+
+static uint64_t call_load(const uint8_t *text, size_t n)
+{
+    say("load");
+    say_bytes("text", text, n);
+    struct crisp_answer a = crisp_load(table, text, n);
+    agree(LOAD, a, ref_load(ref_table, text, n));
+    return a.reply;
 }
 
 /* a sender that was refused is counted where edition 2, or the other length of check value, would have met another reply */
@@ -255,6 +304,24 @@ static struct crisp_answer call_protect(struct crisp_sender *s, struct crisp_sen
 
 /* the entry of sender i */
 static void install(int i) { call_install(&senders[i], editions[i], sizes[i], starts[i], 32); }
+
+/* ---- the tables, emptied or changed by hand */
+
+static int by_hand;                             /* whether they were, since they were empty */
+
+static void clear_tables(void)
+{
+    memset(table, 0, CRISP_TABLE);
+    memset(ref_table, 0, CRISP_TABLE);
+    by_hand = 0;
+}
+
+static void put(size_t at, uint8_t x)
+{
+    say("byte %zu of the table becomes %02x\n", at, x);
+    table[at] = ref_table[at] = x;
+    by_hand = 1;
+}
 
 /* ---- random calls */
 
@@ -333,27 +400,483 @@ static void random_damage(void)
 {
     size_t at = below(4) ? SLOT * below(16) + below(SLOT) : SLOT * below(3) + (below(3) ? SIZE + below(72) : SUITE + below(2));
     uint8_t x = below(2) ? some_byte() : (uint8_t)(table[at] ^ (below(4) ? 1 << below(8) : OTHER_LENGTH));
-    say("byte %zu of the table becomes %02x\n", at, x);
-    table[at] = ref_table[at] = x;
+    put(at, x);
 }
+
+/* ---- texts of listings, line by line */
+
+enum { AT_SLOT, AT_FLAG, AT_KEYID, AT_SOURCE, AT_SUITE, AT_EDITION, AT_SIZE, AT_START, AT_HIGHEST, AT_MARKS, AT_ACCEPTED, AT_BYTES, LINES };
+static const char *const line_names[LINES] = {"slot", "flag", "keyid", "source", "suite", "edition", "size", "start", "highest", "marks", "accepted",
+                                              "bytes"};
+
+struct lines {
+    char of[LINES][640];                        /* what stands behind the name */
+};
+
+static int in_hex(int line) { return line == AT_KEYID || line == AT_SOURCE || line == AT_HIGHEST || line == AT_MARKS; }
+
+/* of a text that a listing was */
+static void split(const struct text *t, struct lines *l)
+{
+    const uint8_t *p = t->bytes;
+    for (int i = 0; i < LINES; i++) {
+        p += strlen(line_names[i]) + 1;
+        char *to = l->of[i];
+        while (*p != '\n') *to++ = (char)*p++;
+        *to = 0;
+        p++;
+    }
+}
+
+static void add(struct text *t, const char *string)
+{
+    size_t n = strlen(string);
+    memcpy(t->bytes + t->length, string, n);
+    t->length += n;
+}
+
+static void add_line(struct text *t, const struct lines *l, int line, const char *end)
+{
+    add(t, line_names[line]), add(t, "="), add(t, l->of[line]), add(t, end);
+}
+
+static void join(const struct lines *l, struct text *t)
+{
+    t->length = 0;
+    for (int i = 0; i < LINES; i++) add_line(t, l, i, "\n");
+}
+
+static uint64_t number(const struct lines *l, int line) { return strtoull(l->of[line], NULL, in_hex(line) ? 16 : 10); }
+static void set_number(struct lines *l, int line, uint64_t x) { sprintf(l->of[line], line == AT_HIGHEST ? "%012llx" : "%llu", (unsigned long long)x); }
+
+static void set_hex(struct lines *l, int line, const uint8_t *bytes, size_t n)
+{
+    for (size_t i = 0; i < n; i++) sprintf(l->of[line] + 2 * i, "%02x", bytes[i]);
+    l->of[line][2 * n] = 0;
+}
+
+/* highest number, marks and totals, with the bounds that Size and start set them */
+struct history {
+    uint64_t size, start, highest, old_floor, floor, count, accepted, bytes;
+    uint8_t marks[32];
+};
+
+static void turn(struct history *h, uint64_t i) { h->marks[31 - i / 8] ^= (uint8_t)(1 << i % 8); }
+
+static void set_highest(struct history *h, uint64_t highest)
+{
+    h->highest = highest;
+    h->old_floor = highest + 1 > h->size ? highest + 1 - h->size : 0;
+    h->floor = h->old_floor > h->start ? h->old_floor : h->start;
+}
+
+static void history_in(const struct lines *l, struct history *h)
+{
+    *h = (struct history){.size = number(l, AT_SIZE), .start = number(l, AT_START), .accepted = number(l, AT_ACCEPTED), .bytes = number(l, AT_BYTES)};
+    set_highest(h, number(l, AT_HIGHEST));
+    for (size_t i = 0; i < 32; i++) {
+        char digits[3] = {l->of[AT_MARKS][2 * i], l->of[AT_MARKS][2 * i + 1], 0};
+        h->marks[i] = (uint8_t)strtoul(digits, NULL, 16);
+        for (int bit = 0; bit < 8; bit++) h->count += h->marks[i] >> bit & 1;
+    }
+}
+
+static void put_history(struct lines *l, const struct history *h)
+{
+    set_number(l, AT_HIGHEST, h->highest), set_hex(l, AT_MARKS, h->marks, 32);
+    set_number(l, AT_ACCEPTED, h->accepted), set_number(l, AT_BYTES, h->bytes);
+}
+
+/* ---- an entry that stands anew */
+
+/* what a slot is filled with, so that the next install takes the one behind it */
+static struct crisp_answer install_filler(size_t slot)
+{
+    struct crisp_sender s = {.keyid = {0x82, 0xf1, (uint8_t)slot}, .keyid_len = 3, .source = "fill", .source_len = 4, .suite = 2};
+    call_install(&s, 2, 1, 0, 32);
+    return answered;
+}
+
+static uint64_t number_at(const uint8_t *p)
+{
+    uint64_t x = 0;
+    for (int i = 0; i < 8; i++) x = x << 8 | p[i];
+    return x;
+}
+
+/* the key data, Size and start that stand in a slot */
+static struct crisp_answer install_from(const uint8_t *slot)
+{
+    struct crisp_sender s = {.flag = slot[FLAG], .keyid_len = slot[KEYID_LEN], .source_len = slot[SOURCE_LEN], .suite = slot[SUITE]};
+    memcpy(s.keyid, slot + KEYID, CRISP_KEYID);
+    memcpy(s.source, slot + SOURCE, CRISP_SOURCE);
+    memcpy(s.key, slot + KEY, CRISP_KEY);
+    call_install(&s, slot[EDITION], number_at(slot + SIZE), number_at(slot + START), 32);
+    return answered;
+}
+
+/* Installs in each free slot up to `last` what stands there in `from`; where that is free too, it is filled meanwhile. */
+static int install_again(const uint8_t *from, size_t last)
+{
+    for (size_t i = 0; i <= last; i++) {
+        if (table[SLOT * i]) continue;
+        struct crisp_answer a = from[SLOT * i] ? install_from(from + SLOT * i) : install_filler(i);
+        if (a.reply || a.slot != i) return 0;
+    }
+    for (size_t i = 0; i <= last; i++)
+        if (!from[SLOT * i]) call_remove(i);
+    return 1;
+}
+
+/* an undamaged entry, removed and installed again in its slot */
+static int stands_again(size_t slot)
+{
+    static uint8_t from[CRISP_TABLE];
+    memcpy(from, table, CRISP_TABLE);
+    call_remove(slot);
+    return install_again(from, slot);
+}
+
+/* ---- random loads */
+
+/* a history that an entry of this Size and start may have, often at its bounds */
+static void make_history(struct history *h)
+{
+    uint64_t highest = below(4) ? h->start + below(2 * h->size + 2) : below(2) ? CRISP_LAST - below(3) : below(CRISP_LAST);
+    set_highest(h, highest > CRISP_LAST ? CRISP_LAST : highest < h->start ? 0 : highest);
+    memset(h->marks, 0, 32);
+    h->count = 0;
+    for (uint64_t i = 0; i < 256 && i <= h->highest && h->highest - i >= h->floor; i++)
+        if ((i == 0 && h->highest > 0) || below(2)) turn(h, i), h->count++;
+    h->accepted = h->count + (below(2) ? below(h->floor - h->start + 1) : below(2) ? h->floor - h->start : 0);
+    h->bytes = below(2) ? CRISP_PAYLOAD * h->accepted : below(CRISP_PAYLOAD * h->accepted + 1);
+}
+
+/* x, or now and then any number above it */
+static uint64_t from(uint64_t x) { return below(2) ? x : x + below(UINT64_MAX - x); }
+
+/* what is wrong with a mark of that place, or RECORD */
+static enum record outside(const struct history *h, uint64_t i)
+{
+    if (i > h->highest) return UNDER_ZERO;
+    if (h->highest - i < h->old_floor) return OUTSIDE_WINDOW;
+    return h->highest - i < h->start ? UNDER_START : RECORD;
+}
+
+/* damaged in that way alone, where it can be */
+static int damage_history(struct history *h, enum record way)
+{
+    uint64_t i = below(256), most = h->count + h->floor - h->start;
+    switch (way) {
+    case UNDER_ZERO: case OUTSIDE_WINDOW: case UNDER_START:
+        for (int n = 0; n < 256 && outside(h, i) != way; n++) i = (i + 1) % 256;
+        if (outside(h, i) != way) return 0;
+        return turn(h, i), h->accepted++, 1;
+    case UNMARKED:
+        if (h->highest == 0) return 0;
+        return turn(h, 0), h->accepted--, h->bytes = 0, 1;
+    case FEW:
+        if (h->count == 0) return 0;
+        return h->accepted = below(2) ? h->count - 1 : below(h->count), h->bytes = 0, 1;
+    case MANY: return h->accepted = from(most + 1), h->bytes = 0, 1;
+    default: return h->bytes = from(CRISP_PAYLOAD * h->accepted + 1), 1;
+    }
+}
+
+static void put_number(size_t at, uint64_t x)
+{
+    for (size_t i = 0; i < 8; i++) put(at + i, (uint8_t)(x >> (56 - 8 * i)));
+}
+
+/* key data that is unsound, in the slot and in the text */
+static void damage_key_data(struct lines *l, size_t slot)
+{
+    size_t at = SLOT * slot;
+    uint8_t x = (uint8_t)(3 + below(200));
+    uint64_t size = below(2) ? 257 + below(3) : 0, start = from(CRISP_LAST + 1ULL);
+    switch (below(7)) {
+    case 0: put(at + FLAG, x), set_number(l, AT_FLAG, x); break;
+    case 1: put(at + SUITE, x), set_number(l, AT_SUITE, x); break;
+    case 2: put(at + EDITION, x), set_number(l, AT_EDITION, x); break;
+    case 3: put_number(at + SIZE, size), set_number(l, AT_SIZE, size); break;
+    case 4: put_number(at + START, start), set_number(l, AT_START, start); break;
+    case 5: put(at + KEYID, table[at + KEYID_LEN] == 1 ? 0x90 : table[at + KEYID] ^ 1), set_hex(l, AT_KEYID, table + at + KEYID, table[at + KEYID_LEN]); break;
+    default: put(at + SOURCE_LEN, x % 4), l->of[AT_SOURCE][2 * (x % 4)] = 0;
+    }
+}
+
+static void another_number(struct lines *l, int line)
+{
+    uint64_t x = number(l, line);
+    set_number(l, line, below(2) ? (below(2) ? x + 1 : x - 1) : x + (1ULL << below(64)));
+}
+
+static void another_hex(struct lines *l, int line)
+{
+    char *p = l->of[line];
+    size_t n = strlen(p), at = below(n + 1);
+    switch (n < 2 || at == n ? 0 : below(5)) {
+    case 0: strcat(p, "00"); break;
+    case 1: p[n - 2] = 0; break;
+    case 2: p[0] = 0; break;
+    case 3: memset(p + n, '0', 300 - n), p[300] = 0; break;
+    default: p[at] = p[at] == '0' ? '1' : '0';
+    }
+}
+
+/* the text tells another entry, or the slot holds none */
+static void change_entry(struct lines *l, size_t slot, enum entry way)
+{
+    static const int lines[] = {AT_SLOT, AT_FLAG, AT_KEYID, AT_SOURCE, AT_SUITE, AT_EDITION, AT_SIZE, AT_START};
+    size_t at = SLOT * slot, longer;
+    switch (way) {
+    case NOT_FRESH: put(at + 254 + below(8), (uint8_t)(1 + below(255))); break;
+    case FREED: put(at, 0); break;
+    case LONG_KEYID:
+        longer = 129 + below(127);
+        put(at + KEYID_LEN, (uint8_t)longer), set_hex(l, AT_KEYID, table + at + KEYID, longer);
+        break;
+    case LONG_SOURCE:
+        longer = 33 + below(122);
+        put(at + SOURCE_LEN, (uint8_t)longer), set_hex(l, AT_SOURCE, table + at + SOURCE, longer);
+        break;
+    default:
+        if (in_hex(lines[way])) another_hex(l, lines[way]);
+        else another_number(l, lines[way]);
+    }
+}
+
+static const char *const not_decimal[] = {"", "+5", "-1", "05", "00", " 5", "5 ", "5\r", "0x5", "5.", "1e1", "18446744073709551616", "18446744073709551620",
+                                          "18446744073709551700", "28446744073709551615", "99999999999999999999", "100000000000000000000",
+                                          "000000000000000000000", "184467440737095516150", "368934881474191032320", "340282366920938463463374607431"};
+enum { NOT_DECIMAL = sizeof not_decimal / sizeof *not_decimal };
+
+static int some_line(int hex)
+{
+    int line;
+    do line = (int)below(LINES);
+    while (in_hex(line) != hex);
+    return line;
+}
+
+/* a value that is not in form */
+static void spoil_value(struct lines *l, enum form way)
+{
+    int line = some_line(way == HEX);
+    char *p = l->of[line], value[32];
+    size_t n = strlen(p);
+    if (way == DECIMAL && below(2)) strcpy(p, not_decimal[below(NOT_DECIMAL)]);
+    else if (way == DECIMAL) strcpy(value, p), sprintf(p, "0%s", value);
+    else if (n == 0) strcpy(p, "0");
+    else if (below(2)) p[n - 1] = 0;                                            /* an odd count */
+    else if (line > AT_SOURCE && below(2)) strcat(p, "00");
+    else p[below(n)] = (char)"ABCDEFg/:`@ xX"[below(14)];
+}
+
+/* a text that is not in form, or has lost it */
+static void spoil_text(const struct lines *l, struct text *t, enum form way)
+{
+    int line = (int)below(LINES), what = (int)below(3);
+    switch (way) {
+    case BYTE: t->bytes[below(t->length)] ^= (uint8_t)(below(2) ? 1ULL << below(8) : 1 + below(255)); break;
+    case CUT: t->length = below(t->length); break;
+    case BEHIND: below(2) ? add(t, below(2) ? "\n" : " ") : add_line(t, l, line, "\n"); break;
+    default:
+        t->length = 0;
+        for (int i = 0; i < LINES; i++) {
+            int turned = what == 2 && line + 1 < LINES ? i == line ? i + 1 : i == line + 1 ? i - 1 : i : i;
+            if (what != 1 || i != line) add_line(t, l, turned, what == 2 && line + 1 == LINES && i == line ? "\r\n" : "\n");
+            if (what == 0 && i == line) add_line(t, l, i, "\n");
+        }
+    }
+}
+
+static int loads(const struct text *t)
+{
+    static uint8_t other[CRISP_TABLE];
+    memcpy(other, ref_table, CRISP_TABLE);
+    return ref_load(other, t->bytes, t->length).reply == 0;
+}
+
+/* One thing is changed in a text that would have been loaded, or more than one, which is not counted: then the order of the replies tells. */
+static void load_changed(const struct lines *as_it_was, size_t slot)
+{
+    static struct text t;
+    struct lines lines = *as_it_was, *l = &lines;
+    join(l, &t);
+    int counts = loads(&t);
+    struct history h;
+    history_in(l, &h);
+    enum form form = (enum form)below(FORMS);
+    enum entry entry = (enum entry)below(ENTRY);
+    enum record record = (enum record)below(RECORD);
+    int which = 1 << below(3);
+    if (!below(4)) which = (int)below(8);
+    if (which & 4 && record == KEY_DATA) damage_key_data(l, slot);
+    else if (which & 4) counts &= damage_history(&h, record), put_history(l, &h);
+    if (which & 2) change_entry(l, slot, entry);
+    int of_value = form == DECIMAL || form == HEX;
+    if (which & 1 && of_value) spoil_value(l, form);
+    join(l, &t);
+    if (which & 1 && !of_value) spoil_text(l, &t, form);
+    uint64_t reply = call_load(t.bytes, t.length);
+    if (!counts) return;
+    if (which == 1 && reply == 21) by_form[form]++;
+    if (which == 2 && reply == 22) by_entry[entry]++;
+    if (which == 4 && reply == 23) by_record[record]++;
+}
+
+/* any bytes, or lines in form of any numbers */
+static void load_anything(void)
+{
+    static struct text t;
+    static struct lines l;
+    t.length = below(700);
+    fill(t.bytes, t.length);
+    if (below(2)) {
+        for (int i = 0; i < LINES; i++)
+            if (in_hex(i)) set_hex(&l, i, t.bytes, i == AT_HIGHEST ? 6 : i == AT_MARKS ? 32 : below(40));
+            else set_number(&l, i, below(2) ? below(20) : rnd());
+        join(&l, &t);
+    }
+    call_load(t.bytes, t.length);
+}
+
+/* whether the entry was changed by a message that arrived now */
+static int arrives_at(size_t slot)
+{
+    uint8_t before[SLOT];
+    memcpy(before, table + SLOT * slot, SLOT);
+    if (below(2)) return 0;
+    random_protect((int)below(4), 1);
+    random_receive();
+    return memcmp(before, table + SLOT * slot, SLOT) != 0;
+}
+
+static void random_load(void)
+{
+    static struct text t;
+    static struct lines l;
+    size_t slot = below(CRISP_SLOTS);
+    for (int tries = 0; tries < 8 && !table[SLOT * slot]; tries++) slot = below(below(2) ? CRISP_SLOTS : 4);
+    if (!below(16)) load_anything();
+    call_listing(slot, 2048);
+    if (answered.reply) return;
+    static struct text own, other;
+    own = printed[(prints - 1) % PRINTED], other = printed[below((uint64_t)(prints < PRINTED ? prints : PRINTED))];
+    int older = arrives_at(slot), stands = !below(8);
+    if (!stands && !stands_again(slot)) return;
+    split(&own, &l);
+    struct history h;
+    switch (below(8)) {
+    case 0: case 1:
+        if (call_load(own.bytes, own.length)) {
+            if (!stands) differs("a listing that does not load");
+            by_entry[NOT_FRESH]++;
+            break;
+        }
+        by_load[older ? OLDER : OWN]++;
+        call_listing(slot, 2048);
+        if (answered.length != own.length || memcmp(out, own.bytes, own.length)) differs("the listing after a load");
+        break;
+    case 2: by_load[call_load(other.bytes, other.length) ? ANY_REFUSED : ANY]++; break;
+    case 3:
+        split(&other, &l);
+        by_load[OTHERS] += number(&l, AT_SLOT) != slot;
+        set_number(&l, AT_SLOT, slot), join(&l, &t), call_load(t.bytes, t.length);
+        break;
+    case 4:
+        history_in(&l, &h), make_history(&h), put_history(&l, &h), join(&l, &t);
+        by_load[MADE] += !call_load(t.bytes, t.length);
+        break;
+    default:
+        for (int n = 0; n < 4; n++) {
+            if (below(2)) history_in(&l, &h), make_history(&h), put_history(&l, &h);
+            load_changed(&l, slot);
+        }
+    }
+}
+
+/* ---- restarts */
+
+static void exchange_tables(uint8_t other[CRISP_TABLE])
+{
+    static uint8_t held[CRISP_TABLE];
+    memcpy(held, table, CRISP_TABLE);
+    memcpy(table, other, CRISP_TABLE);
+    memcpy(ref_table, other, CRISP_TABLE);
+    memcpy(other, held, CRISP_TABLE);
+}
+
+static void random_table_call(void)
+{
+    switch (below(8)) {
+    case 0: random_install(); break;
+    case 1: call_remove(below(18)); break;
+    case 2: call_listing(below(18), some_room()); break;
+    default: random_receive();
+    }
+}
+
+/* the same calls on the table that was never lost */
+static void go_on_with(uint8_t other[CRISP_TABLE])
+{
+    static uint8_t first_out[ROOM];
+    for (int n = 1 + (int)below(6); n > 0; n--) {
+        if (!keeps || below(2)) random_protect((int)below(ENTRIES), 1);
+        if (!keeps) continue;
+        uint64_t state = random_state;
+        exchange_tables(other);
+        random_table_call();
+        struct crisp_answer first = answered;
+        memcpy(first_out, out, ROOM);
+        exchange_tables(other);
+        random_state = state;
+        random_table_call();
+        if (memcmp(&first, &answered, sizeof first) || memcmp(first_out, out, ROOM)) differs("an answer or output after a restart");
+        if (memcmp(table, other, CRISP_TABLE)) differs("a table after a restart");
+        by_load[AFTERWARDS]++;
+    }
+}
+
+/* The entries are listed, the table is lost, they are installed again, each in its slot, and their listings loaded. A table that was changed by hand may
+ * hold what no listing tells. */
+static void restart(void)
+{
+    static struct text texts[CRISP_SLOTS];
+    static uint8_t before[CRISP_TABLE];
+    if (by_hand) return;
+    memcpy(before, table, CRISP_TABLE);
+    for (size_t i = 0; i < CRISP_SLOTS; i++)
+        if (before[SLOT * i]) call_listing(i, 2048), texts[i] = printed[(prints - 1) % PRINTED];
+    say("the table is lost\n");
+    clear_tables();
+    if (!install_again(before, CRISP_SLOTS - 1)) differs("an install after a restart");
+    for (size_t i = 0; i < CRISP_SLOTS; i++)
+        if (before[SLOT * i]) {
+            if (call_load(texts[i].bytes, texts[i].length)) differs("a load after a restart");
+            by_load[LOADED_THERE]++;
+        }
+    if (memcmp(table, before, CRISP_TABLE)) differs("the table after a restart");
+    by_load[RESTARTS]++;
+    go_on_with(before);
+}
+
+/* ---- sequences */
 
 static void random_call(void)
 {
-    switch (below(20)) {
+    switch (below(23)) {
     case 0: case 1: case 2: random_install(); break;
     case 3: if (!below(3)) call_remove(below(18)); break;
     case 4: call_listing(below(18), some_room()); break;
     case 5: if (!below(4)) random_damage(); break;
     case 6: random_protect((int)below(ENTRIES), 0); break;
     case 7: case 8: case 9: random_protect((int)below(ENTRIES), 1); break;
+    case 10: case 11: random_load(); break;
+    case 12: if (!below(2)) restart(); break;
     default: random_receive();
     }
-}
-
-static void clear_tables(void)
-{
-    memset(table, 0, CRISP_TABLE);
-    memset(ref_table, 0, CRISP_TABLE);
 }
 
 /* A sequence is told by its seed alone: new senders, an empty table, some entries, and then any calls. */
@@ -488,12 +1011,306 @@ static void make_swept(void)
     memcpy(ref_senders, senders, sizeof senders);
 }
 
+/* ---- the sweeps of loads: the listing of an entry that has a history, and everything about it, at that entry installed again */
+
+static struct text listed;
+static struct lines listed_lines;
+
+static void load_text(const struct text *t) { back(), call_load(t->bytes, t->length); }
+
+static void load_lines(const struct lines *l)
+{
+    static struct text t;
+    join(l, &t), load_text(&t);
+}
+
+/* the listing with another value in a line */
+static void load_with(int line, const char *value)
+{
+    struct lines l = listed_lines;
+    strcpy(l.of[line], value);
+    load_lines(&l);
+}
+
+static void load_number(int line, uint64_t x)
+{
+    struct lines l = listed_lines;
+    set_number(&l, line, x), load_lines(&l);
+}
+
+/* sender i's entry in that slot, behind others, with six messages of which some have left the window; answers the last of them in `swept` */
+static int make_listed(int i, size_t slot, uint64_t size)
+{
+    static const uint8_t payload[8] = "17.3 GJ";
+    clear_tables();
+    traced = 0;
+    sizes[i] = size;
+    for (size_t k = 0; k < slot; k++) install_filler(k);
+    install(i);
+    for (uint64_t n = 0; n < 6; n++) {
+        senders[i].current += n % 3, ref_senders[i].current += n % 3;
+        if (!next_message(i, payload, n)) return 0;
+        arrives(i, swept_length, senders[i].source_len, 2048);
+    }
+    call_listing(slot, 2048);
+    if (answered.reply) return 0;
+    listed = printed[(prints - 1) % PRINTED];
+    split(&listed, &listed_lines);
+    call_remove(slot);
+    install(i);
+    memcpy(saved, table, CRISP_TABLE);
+    return answered.slot == slot;
+}
+
+/* it loads and is printed again; the last message does not pass again, the next one does; a second load is refused */
+static void sweep_history(int i, size_t slot)
+{
+    load_text(&listed);
+    if (answered.reply) differs("a listing that does not load");
+    call_listing(slot, 2048);
+    if (answered.length != listed.length || memcmp(out, listed.bytes, listed.length)) differs("the listing after a load");
+    arrives(i, swept_length, senders[i].source_len, 2048);
+    if (answered.reply != 10) differs("a repeated message after a load");
+    if (next_message(i, CRISP_NOTHING, 0)) arrives(i, swept_length, senders[i].source_len, 2048);
+    if (answered.reply) differs("the next message after a load");
+    call_load(listed.bytes, listed.length);
+}
+
+/* each line left out, doubled, in each other's place, ended in another way; and what stands in front of and behind the text */
+static void sweep_lines(void)
+{
+    static const char *const ends[] = {"", "\r\n", "\n\n", "\r", " \n", "\n ", "\t\n", "\v"};
+    static struct text t;
+    const struct lines *l = &listed_lines;
+    for (int line = 0; line < LINES; line++) {
+        for (int times = 0; times <= 2; times += 2) {
+            t.length = 0;
+            for (int i = 0; i < LINES; i++)
+                for (int n = i == line ? times : 1; n > 0; n--) add_line(&t, l, i, "\n");
+            load_text(&t);
+        }
+        for (int other = 0; other < LINES; other++) {
+            t.length = 0;
+            for (int i = 0; i < LINES; i++) add_line(&t, l, i == line ? other : i == other ? line : i, "\n");
+            load_text(&t);
+        }
+        for (size_t end = 0; end < sizeof ends / sizeof *ends; end++) {
+            t.length = 0;
+            for (int i = 0; i < LINES; i++) add_line(&t, l, i, i == line ? ends[end] : "\n");
+            load_text(&t);
+        }
+    }
+    for (size_t end = 0; end < sizeof ends / sizeof *ends; end++) {
+        t.length = 0;
+        for (int i = 0; i < LINES; i++) add_line(&t, l, i, ends[end]);
+        load_text(&t);
+    }
+    for (int byte = 0; byte < 256; byte++) {
+        t = listed, t.bytes[t.length++] = (uint8_t)byte, load_text(&t);
+        t.bytes[0] = (uint8_t)byte, memcpy(t.bytes + 1, listed.bytes, listed.length), load_text(&t);
+    }
+    t = listed, add(&t, "answer=0\n"), load_text(&t);
+    t.length = 0, add(&t, "answer=0\n"), memcpy(t.bytes + t.length, listed.bytes, listed.length), t.length += listed.length, load_text(&t);
+}
+
+/* each decimal: what is none, numbers about its own, about the powers of two, and small ones */
+static void sweep_decimals(void)
+{
+    static const char *const around[] = {"0%s", "00%s", "+%s", "-%s", " %s", "%s ", "%s\r", "%s0", "1%s", "=%s"};
+    char value[64];
+    for (int line = 0; line < LINES; line++) {
+        if (in_hex(line)) continue;
+        uint64_t own = number(&listed_lines, line);
+        for (int i = 0; i < NOT_DECIMAL; i++) load_with(line, not_decimal[i]);
+        for (size_t i = 0; i < sizeof around / sizeof *around; i++) snprintf(value, sizeof value, around[i], listed_lines.of[line]), load_with(line, value);
+        for (int bit = 0; bit < 64; bit++)
+            for (uint64_t x = 0; x < 3; x++) load_number(line, own + (1ULL << bit) - x), load_number(line, (1ULL << bit) - x);
+        for (uint64_t x = 0; x <= 300; x++) load_number(line, x), load_number(line, 18446744073709551615ULL - x);
+    }
+}
+
+/* hex of each length from 0 to 300, with its own digits as far as they go, and in upper case */
+static void sweep_hex(void)
+{
+    for (int line = 0; line < LINES; line++) {
+        if (!in_hex(line)) continue;
+        struct lines l = listed_lines;
+        char *p = l.of[line];
+        size_t n = strlen(p);
+        memset(p + n, '0', 301 - n);
+        for (size_t length = 0; length <= 300; length++) {
+            char next = p[length];
+            p[length] = 0, load_lines(&l), p[length] = next;
+        }
+        p[n] = 0;
+        for (size_t i = 0; i < n; i++) {
+            char digit = p[i];
+            p[i] = 'A', load_lines(&l);
+            p[i] = 'a', load_lines(&l);
+            if (digit >= 'a') p[i] = (char)(digit - 'a' + 'A'), load_lines(&l);
+            p[i] = digit;
+        }
+        for (size_t i = 0; i < n; i++)
+            if (p[i] >= 'a') p[i] = (char)(p[i] - 'a' + 'A');
+        load_lines(&l);
+    }
+}
+
+/* whatever is wrong with the text, the entry and the record at once: the first of 21, 22, 23 is given */
+static void sweep_order(size_t slot)
+{
+    for (int damaged = 0; damaged < 2; damaged++)
+        for (int other = -1; other <= AT_START + 1; other++)
+            for (int bad = -1; bad < LINES; bad++) {
+                struct lines l = listed_lines;
+                back();
+                if (damaged) set_number(&l, AT_ACCEPTED, 0);
+                if (other == AT_START + 1) put(SLOT * slot + 261, 1);
+                else if (other == AT_SLOT) set_number(&l, AT_SLOT, 16 + slot);
+                else if (other >= 0 && in_hex(other)) strcat(l.of[other], "00");
+                else if (other >= 0) set_number(&l, other, number(&l, other) + 1);
+                if (bad >= 0) strcat(l.of[bad], in_hex(bad) ? "0" : " ");
+                static struct text t;
+                join(&l, &t), call_load(t.bytes, t.length);
+            }
+}
+
+static void load_history(const struct history *h)
+{
+    struct lines l = listed_lines;
+    put_history(&l, h), load_lines(&l);
+}
+
+/* each mark, highest numbers and totals about their bounds */
+static void sweep_record(void)
+{
+    struct history own, h;
+    history_in(&listed_lines, &own);
+    uint64_t most = own.count + own.floor - own.start;
+    for (uint64_t i = 0; i < 256; i++)
+        for (uint64_t more = 0; more < 4; more++) h = own, turn(&h, i), h.accepted += more - 1, load_history(&h);
+    for (uint64_t x = 0; x < 24; x++) {
+        h = own, h.highest = x, load_history(&h);
+        h = own, h.highest = own.highest + x - 12, load_history(&h);
+        h = own, h.highest = CRISP_LAST - x, load_history(&h);
+        h = own, h.accepted = own.count + x - 12, h.bytes = 0, load_history(&h);
+        h = own, h.accepted = most + x - 12, load_history(&h);
+        h = own, h.bytes = CRISP_PAYLOAD * own.accepted + x - 12, load_history(&h);
+    }
+    memset(&h, 0, sizeof h), load_history(&h);
+    h.marks[31] = 1, h.accepted = 1, load_history(&h);
+    h.highest = CRISP_LAST, load_history(&h);
+    h.accepted = UINT64_MAX, load_history(&h);
+    h.bytes = UINT64_MAX, load_history(&h);
+}
+
+/* each byte of the slot replaced; each value of a byte that the text tells, there and in the text; and stored lengths of every size */
+static void sweep_slot(size_t slot)
+{
+    static const struct { int place, line; } told[] = {{FLAG, AT_FLAG}, {SUITE, AT_SUITE}, {EDITION, AT_EDITION}};
+    static const uint64_t numbers[] = {0, 1, 2, 255, 256, 257, CRISP_LAST - 1, CRISP_LAST, CRISP_LAST + 1ULL, 1ULL << 63, UINT64_MAX};
+    size_t at = SLOT * slot;
+    struct lines l;
+    static struct text t;
+    for (size_t i = 0; i < SLOT; i++)
+        for (int v = 0; v < 5; v++) {
+            back();
+            put(at + i, (uint8_t)(v == 0 ? 0 : v == 1 ? 255 : v == 2 ? saved[at + i] + 1 : saved[at + i] ^ (v == 3 ? 0x80 : OTHER_LENGTH)));
+            call_load(listed.bytes, listed.length);
+        }
+    for (unsigned x = 0; x < 256; x++) {
+        for (size_t i = 0; i < sizeof told / sizeof *told; i++) {
+            back(), l = listed_lines;
+            put(at + (size_t)told[i].place, (uint8_t)x), set_number(&l, told[i].line, x), join(&l, &t), call_load(t.bytes, t.length);
+        }
+        back(), l = listed_lines;
+        put(at + KEYID, (uint8_t)x), set_hex(&l, AT_KEYID, table + at + KEYID, table[at + KEYID_LEN]), join(&l, &t), call_load(t.bytes, t.length);
+        back(), l = listed_lines;
+        put(at + KEYID_LEN, (uint8_t)x), set_hex(&l, AT_KEYID, table + at + KEYID, x), join(&l, &t), call_load(t.bytes, t.length);
+        if (at + SOURCE + x > CRISP_TABLE) continue;
+        back(), l = listed_lines;
+        put(at + SOURCE_LEN, (uint8_t)x), set_hex(&l, AT_SOURCE, table + at + SOURCE, x), join(&l, &t), call_load(t.bytes, t.length);
+    }
+    for (size_t i = 0; i < sizeof numbers / sizeof *numbers; i++) {
+        back(), l = listed_lines;
+        put_number(at + SIZE, numbers[i]), set_number(&l, AT_SIZE, numbers[i]), join(&l, &t), call_load(t.bytes, t.length);
+        back(), l = listed_lines;
+        put_number(at + START, numbers[i]), set_number(&l, AT_START, numbers[i]), join(&l, &t), call_load(t.bytes, t.length);
+    }
+}
+
+/* each beginning of the text, and each byte of it changed to each other value */
+static void sweep_bytes(void)
+{
+    struct text t = listed;
+    for (t.length = 0; t.length < listed.length; t.length++) load_text(&t);
+    for (size_t i = 0; i < listed.length; i++) {
+        for (unsigned x = 1; x < 256; x++) t.bytes[i] = (uint8_t)(listed.bytes[i] ^ x), load_text(&t);
+        t.bytes[i] = listed.bytes[i];
+    }
+}
+
+/* texts of 4 MiB: of one byte alone; as one value, in each line; and behind a whole text */
+static void sweep_long_texts(void)
+{
+    enum { LONG = 4 << 20 };
+    static uint8_t text[LONG + sizeof listed.bytes];
+    static const char bytes[] = "0a1\n=s ";
+    for (size_t i = 0; i < sizeof bytes; i++) memset(text, bytes[i], LONG), back(), call_load(text, LONG);
+    memcpy(text, listed.bytes, listed.length);
+    for (size_t i = 0; i < sizeof bytes; i++) memset(text + listed.length, bytes[i], LONG), back(), call_load(text, listed.length + LONG);
+    static struct text front, behind;
+    front.length = 0;
+    for (int line = 0; line < LINES; line++) {
+        add(&front, line_names[line]), add(&front, "=");
+        behind.length = 0;
+        add(&behind, "\n");
+        for (int i = line + 1; i < LINES; i++) add_line(&behind, &listed_lines, i, "\n");
+        memcpy(text, front.bytes, front.length);
+        memset(text + front.length, in_hex(line) ? 'a' : '1', LONG);
+        memcpy(text + front.length + LONG, behind.bytes, behind.length);
+        back(), call_load(text, front.length + LONG + behind.length);
+        add(&front, listed_lines.of[line]), add(&front, "\n");
+    }
+}
+
+/* an entry of each suite and edition, in slots from the first to the last; the second has the longest KeyId */
+static const struct { int sender; size_t slot; uint64_t size; } loaded[] = {{0, 0, 4}, {5, 15, 256}, {3, 1, 1}, {9, 10, 65}, {16, 7, 8}};
+enum { LOADED = sizeof loaded / sizeof *loaded };
+
+static void sweep_loads(void)
+{
+    for (int k = 0; k < LOADED; k++) {
+        make_swept();
+        if (!make_listed(loaded[k].sender, loaded[k].slot, loaded[k].size)) differs("an entry that is to be listed");
+        sweep_history(loaded[k].sender, loaded[k].slot);
+        sweep_lines();
+        sweep_decimals();
+        sweep_hex();
+        sweep_order(loaded[k].slot);
+        sweep_record();
+        sweep_slot(loaded[k].slot);
+    }
+}
+
+static void sweep_texts(void)
+{
+    for (int k = 0; k < LOADED; k++) {
+        make_swept();
+        make_listed(loaded[k].sender, loaded[k].slot, loaded[k].size);
+        sweep_bytes();
+        if (k == 0) sweep_long_texts();
+    }
+}
+
 static void sweep_all(void)
 {
     static const int which[] = {0, 1, 2, 3, 4, 5, 6, 7, 8, 9, 13, 16, 17, 21};
+    sweep_loads();
     make_swept();
     for (size_t k = 0; k < sizeof which / sizeof *which; k++) sweep(which[k], 7 * (size_t)(which[k] % 8));
     for (size_t k = 0; k < sizeof which / sizeof *which; k++) sweep_payloads(which[k]);
+    sweep_texts();
 }
 
 /* one line of counts; answers how many are 0 */
@@ -519,17 +1336,19 @@ int main(int argc, char **argv)
     int missing = 0;
     for (int c = 0; c < CALLS; c++) {
         printf("%-8s", call_names[c]);
-        for (int r = 0; r <= 16; r++)
+        for (int r = 0; r < REPLIES; r++)
             if (replies[c][r]) printf("  %d: %llu", r, (unsigned long long)replies[c][r]);
         printf("\n");
     }
-    for (int r = 0; r <= 16; r++) {
+    for (int r = 0; r < REPLIES; r++) {
         uint64_t n = 0;
         for (int c = 0; c < CALLS; c++) n += replies[c][r];
-        if (!n) printf("reply %d was never given\n", r), missing++;
+        if (!n && is_reply((uint64_t)r)) printf("reply %d was never given\n", r), missing++;
     }
     missing += print_counts("start", start_names, by_start, STARTS) + print_counts("edition", edition_names, by_edition, EDITIONS)
-             + print_counts("suite", suite_names, by_suite, SUITES);
+             + print_counts("suite", suite_names, by_suite, SUITES) + print_counts("load", load_names, by_load, LOADS)
+             + print_counts("by 21", form_names, by_form, FORMS) + print_counts("by 22", entry_names, by_entry, ENTRY)
+             + print_counts("by 23", record_names, by_record, RECORD);
     printf("compare: %llu calls in sweeps and %llu in %llu random sequences, no difference\n", (unsigned long long)swept,
            (unsigned long long)(compared - swept), (unsigned long long)sequences);
     return missing ? 1 : 0;

@@ -358,6 +358,121 @@ answer ref_listing(const u8 *table, size_t slot, u8 *out, size_t out_len)
     return done((size_t)(p - text), slot, 0);
 }
 
+/* ---- a listing loaded back: document 02, No. 6 */
+
+/* the lines in their order: the name, and what has to follow it, a decimal, an even count of hex digits, or so many of them */
+enum { AT_SLOT, AT_FLAG, AT_KEYID, AT_SOURCE, AT_SUITE, AT_EDITION, AT_SIZE, AT_START, AT_HIGHEST, AT_MARKS, AT_ACCEPTED, AT_BYTES, LINES };
+enum { DECIMAL = -1, EVEN = 0 };
+
+static const struct {
+    const char *name;
+    int digits;
+} lines[LINES] = {
+    {"slot=", DECIMAL}, {"flag=", DECIMAL}, {"keyid=", EVEN}, {"source=", EVEN}, {"suite=", DECIMAL}, {"edition=", DECIMAL}, {"size=", DECIMAL},
+    {"start=", DECIMAL}, {"highest=", 12}, {"marks=", 64}, {"accepted=", DECIMAL}, {"bytes=", DECIMAL},
+};
+
+/* what stands behind the name, and of a decimal its number */
+struct value {
+    const u8 *text;
+    size_t length;
+    u64 number;
+};
+
+/* no leading zero, and no number over 2^64 - 1, which has twenty digits */
+static int is_decimal(const u8 *p, size_t n)
+{
+    if (n < 1 || n > 20 || (n > 1 && p[0] == '0')) return 0;
+    for (size_t i = 0; i < n; i++)
+        if (p[i] < '0' || p[i] > '9') return 0;
+    return n < 20 || memcmp(p, "18446744073709551615", 20) <= 0;
+}
+
+static u64 decimal_number(const u8 *p, size_t n)
+{
+    u64 x = 0;
+    while (n--) x = 10 * x + (u64)(*p++ - '0');
+    return x;
+}
+
+/* as printed: two lower-case digits a byte */
+static int hex_digit(u8 c) { return c >= '0' && c <= '9' ? c - '0' : c >= 'a' && c <= 'f' ? c - 'a' + 10 : -1; }
+
+static int is_hex(const u8 *p, size_t n, int digits)
+{
+    if (digits == EVEN ? n % 2 != 0 : n != (size_t)digits) return 0;
+    for (size_t i = 0; i < n; i++)
+        if (hex_digit(p[i]) < 0) return 0;
+    return 1;
+}
+
+static u8 hex_byte(const u8 *p) { return (u8)(hex_digit(p[0]) << 4 | hex_digit(p[1])); }
+
+/* the text is cut at its line feeds, and each piece held against its line; behind the last there is nothing */
+static int in_form(const u8 *text, size_t n, struct value v[LINES])
+{
+    for (int i = 0; i < LINES; i++) {
+        const u8 *end = memchr(text, '\n', n);
+        size_t name = strlen(lines[i].name);
+        if (!end || (size_t)(end - text) < name || memcmp(text, lines[i].name, name)) return 0;
+        v[i].text = text + name;
+        v[i].length = (size_t)(end - v[i].text);
+        if (lines[i].digits != DECIMAL && !is_hex(v[i].text, v[i].length, lines[i].digits)) return 0;
+        if (lines[i].digits == DECIMAL) {
+            if (!is_decimal(v[i].text, v[i].length)) return 0;
+            v[i].number = decimal_number(v[i].text, v[i].length);
+        }
+        n -= (size_t)(end + 1 - text);
+        text = end + 1;
+    }
+    return n == 0;
+}
+
+/* whether hex digits write these bytes */
+static int writes(const struct value *v, const u8 *bytes, size_t n)
+{
+    if (v->length != 2 * n) return 0;
+    for (size_t i = 0; i < n; i++)
+        if (hex_byte(v->text + 2 * i) != bytes[i]) return 0;
+    return 1;
+}
+
+/* the entry that is listed, with accepted 0; a stored length over its room is no entry's, as in a lookup */
+static int stands(const u8 *table, const struct value v[LINES])
+{
+    if (v[AT_SLOT].number > 15) return 0;
+    const u8 *s = table + SLOT * v[AT_SLOT].number;
+    if (s[0] == 0) return 0;
+    if (s[KEYID_LEN] > 128) return 0;
+    if (s[SOURCE_LEN] > 32) return 0;
+    if (s[FLAG] != v[AT_FLAG].number) return 0;
+    if (!writes(&v[AT_KEYID], s + KEYID, s[KEYID_LEN])) return 0;
+    if (!writes(&v[AT_SOURCE], s + SOURCE, s[SOURCE_LEN])) return 0;
+    if (s[SUITE] != v[AT_SUITE].number) return 0;
+    if (s[EDITION] != v[AT_EDITION].number) return 0;
+    if (get(s + SIZE, 8) != v[AT_SIZE].number) return 0;
+    if (get(s + START, 8) != v[AT_START].number) return 0;
+    return get(s + ACCEPTED, 8) == 0;
+}
+
+answer ref_load(u8 *table, const u8 *text, size_t n)
+{
+    struct value v[LINES] = {{0}};
+    if (!in_form(text, n, v)) return refuse(21);
+    if (!stands(table, v)) return refuse(22);
+    size_t slot = (size_t)v[AT_SLOT].number;
+    u8 *s = table + SLOT * slot, loaded[SLOT];
+    memcpy(loaded, s, SLOT);
+    set(loaded + HIGHEST, 8, 0);
+    for (size_t i = 0; i < 6; i++) loaded[HIGHEST + 2 + i] = hex_byte(v[AT_HIGHEST].text + 2 * i);
+    for (size_t i = 0; i < 32; i++) loaded[MARKS + i] = hex_byte(v[AT_MARKS].text + 2 * i);
+    set(loaded + ACCEPTED, 8, v[AT_ACCEPTED].number);
+    set(loaded + BYTES, 8, v[AT_BYTES].number);
+    if (!undamaged(loaded)) return refuse(23);
+    memcpy(s, loaded, SLOT);
+    return done(0, slot, 0);
+}
+
 /* ---- captures: document 02, No. 1 */
 
 /* a number of n bytes in the file's order */

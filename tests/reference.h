@@ -22,6 +22,7 @@ struct crisp_answer ref_receive(uint8_t *table, const uint8_t *message, size_t m
                                 uint8_t *out, size_t out_len);
 struct crisp_answer ref_protect(struct crisp_sender *sender, const uint8_t *payload, size_t payload_len, uint8_t *out, size_t out_len);
 struct crisp_answer ref_listing(const uint8_t *table, size_t slot, uint8_t *out, size_t out_len);
+struct crisp_answer ref_load(uint8_t *table, const uint8_t *text, size_t text_len);
 
 /* Captures. */
 uint64_t ref_capture_order(const uint8_t *file, size_t file_len);
