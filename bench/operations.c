@@ -12,6 +12,8 @@
 #define crisp_install ref_install
 #define crisp_receive ref_receive
 #define crisp_protect ref_protect
+#define crisp_listing ref_listing
+#define crisp_load ref_load
 #define crisp_capture_order ref_capture_order
 #define crisp_capture_record ref_capture_record
 #define capture_report ref_report
@@ -176,6 +178,47 @@ static int keys_suite_2(uint64_t n)
     return 0;
 }
 
+/* ---- a listing, loaded into the entry as it was installed, which is put back before each load */
+
+static int loads(size_t cut, uint64_t n, uint64_t reply)
+{
+    size_t length = crisp_listing(table, 0, out, sizeof out).length;
+    if (length < cut) return 1;
+    while (n--) {
+        memcpy(table + 214, saved + 214, 56);
+        if (crisp_load(table, out, length - cut).reply != reply) return 1;
+    }
+    return 0;
+}
+
+/* 01's entry, after A.2's message */
+static int loads_a_2(size_t cut, uint64_t n, uint64_t reply)
+{
+    if (install(&a_2, 4, 0).reply) return 1;
+    memcpy(saved, table, sizeof table);
+    struct crisp_sender s = sender_of(&a_2);
+    struct crisp_answer a = crisp_protect(&s, data, 37, message, sizeof message);
+    return a.reply || crisp_receive(table, message, a.length, source, 12, out, sizeof out).reply || loads(cut, n, reply);
+}
+
+static int load_a_2(uint64_t n) { return loads_a_2(0, n, 0); }
+static int refuse_text(uint64_t n) { return loads_a_2(1, n, 21); }
+
+/* the longest KeyId and source, and every number of the largest window marked */
+static int load_longest(uint64_t n)
+{
+    struct crisp_sender s = {.flag = 1, .keyid_len = CRISP_KEYID, .source_len = CRISP_SOURCE, .suite = 242, .edition = 2, .current = CRISP_LAST - CRISP_SIZE};
+    memset(s.keyid, 0xff, sizeof s.keyid);
+    memset(s.source, 0xff, sizeof s.source);
+    if (crisp_install(table, 1, s.keyid, s.keyid_len, s.source, s.source_len, s.suite, s.edition, s.key, CRISP_KEY, CRISP_SIZE, 0).reply) return 1;
+    memcpy(saved, table, sizeof table);
+    for (int i = 0; i < CRISP_SIZE; i++) {
+        struct crisp_answer a = crisp_protect(&s, data, 0, message, sizeof message);
+        if (a.reply || crisp_receive(table, message, a.length, s.source, s.source_len, out, sizeof out).reply) return 1;
+    }
+    return loads(0, n, 0);
+}
+
 /* ---- a capture of the greatest size, of A.2's message with rising numbers, read on a table that holds the entry */
 
 static uint8_t capture[CRISP_CAPTURE], text[CAPTURE_TEXT];
@@ -282,6 +325,7 @@ static const struct {
     {"keys-suite-1-edition-1", keys_edition_1}, {"receive-A.1-edition-1", receive_old}, {"protect-A.1-edition-1", protect_old},
     {"receive-A.1-suite-241", receive_long_1}, {"receive-A.2-suite-242", receive_long_2}, {"receive-2048-suite-241", receive_2048_long},
     {"protect-A.1-suite-241", protect_long_1}, {"protect-A.2-suite-242", protect_long_2}, {"protect-2048-suite-241", protect_2048_long},
+    {"load-A.2", load_a_2}, {"load-longest", load_longest}, {"refuse-text", refuse_text},
     {"capture-report", report_capture}, {"capture-loop", loop_capture}, {"capture-records", walk_capture},
 };
 

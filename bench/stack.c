@@ -71,6 +71,13 @@ static void protect(void)
     answer = crisp_protect(&sender, data, longest, message, sizeof message);
 }
 static void listing(void) { answer = crisp_listing(table, 0, out, sizeof out); }
+static uint8_t listed[2048];
+static size_t listed_length;
+static void load(void)
+{
+    memcpy(table, before, sizeof table);
+    answer = crisp_load(table, listed, listed_length);
+}
 static void removal(void)
 {
     memcpy(table, before, sizeof table);
@@ -202,12 +209,14 @@ static void gauge_calls(uint8_t of_suite, uint8_t of_edition, const char *what)
 {
     static const struct { const char *name; void (*call)(void); size_t limit; } calls[] = {
         {"install", install, CRISP_STACK - PUSHED}, {"protect", protect, 1024}, {"receive", receive, 1024}, {"listing", listing, CRISP_STACK - PUSHED},
-        {"remove", removal, CRISP_STACK - PUSHED}, {"report", report, 4096 - PUSHED},
+        {"load", load, CRISP_STACK - PUSHED}, {"remove", removal, CRISP_STACK - PUSHED}, {"report", report, 4096 - PUSHED},
     };
     suite = of_suite, edition = of_edition, longest = CRISP_PAYLOAD_OF(sizeof keyid, suite);
     sender = (struct crisp_sender){.flag = 1, .keyid = {0xff}, .keyid_len = 128, .source_len = 32, .suite = suite, .edition = edition};
     install();
     memcpy(before, table, sizeof table);
+    protect(), receive(), listing();
+    memcpy(listed, out, listed_length = answer.length);
     for (size_t i = 0; i < sizeof calls / sizeof *calls; i++) {
         char name[32];
         snprintf(name, sizeof name, "%s, %s", calls[i].name, what), gauge_within(calls[i].limit, name, calls[i].call);

@@ -1,6 +1,7 @@
-/* A sender and a gateway in one program: three messages are sent, the second arrives first and once more later, and the entry is listed. Then a
- * second gateway takes the first one's place: the old messages do not pass there, the next one does. And a controller of the turbine hall sends with a
- * longer check value. Nothing is kept here; examples/kept.c shows how.
+/* A sender and a gateway in one program: three messages are sent, the second arrives first and once more later, and the entry is listed. The gateway
+ * restarts without its table and goes on by that listing: what had arrived does not pass again, the next message does. Then a second gateway takes the
+ * first one's place: the old messages do not pass there, the next one does. And a controller of the turbine hall sends with a longer check value. Nothing
+ * is kept here; examples/kept.c shows how.
  * Build: cc exchange.c $(pkg-config --cflags --libs crisp) */
 #include "crisp.h"
 #include <stdio.h>
@@ -46,12 +47,30 @@ static int sends(struct crisp_sender *sender, const char *reading, struct packet
     return (int)a.reply;
 }
 
+static struct packet listing;           /* the last one */
+
 static int lists(const uint8_t *gateway, size_t slot)
 {
-    uint8_t text[CRISP_OUT];
-    struct crisp_answer a = crisp_listing(gateway, slot, text, sizeof text);
-    printf("%.*s", (int)a.length, (const char *)text);
+    struct crisp_answer a = crisp_listing(gateway, slot, listing.bytes, sizeof listing.bytes);
+    printf("%.*s", (int)a.length, (const char *)listing.bytes);
+    listing.length = a.length;
     return (int)a.reply;
+}
+
+/* The meter's entry: its key has a past where start is not 0. */
+static struct crisp_answer installs(uint8_t *gateway, uint64_t start)
+{
+    return crisp_install(gateway, 1, keyid, sizeof keyid, source, sizeof source - 1, CRISP_MAGMA_CTR, 2, key, sizeof key, 64, start);
+}
+
+/* The table is gone, and the last listing is not. The entry is installed as it was the first time, into its slot, and takes the listing. */
+static int restarts(uint8_t *gateway)
+{
+    memset(gateway, 0, CRISP_TABLE);
+    if (installs(gateway, 0).reply != CRISP_DONE) return 1;
+    struct crisp_answer a = crisp_load(gateway, listing.bytes, listing.length);
+    printf("load: reply %llu, slot %zu\n", (unsigned long long)a.reply, a.slot);
+    return a.reply != CRISP_DONE;
 }
 
 /* The hall's messages are four bytes longer, for their check value has eight. One that is passed off as a message with a short check value is refused by
@@ -79,7 +98,7 @@ int main(void)
     memcpy(sender.source, source, sizeof source - 1);
     memcpy(sender.key, key, sizeof key);
 
-    struct crisp_answer a = crisp_install(table, 1, keyid, sizeof keyid, source, sizeof source - 1, CRISP_MAGMA_CTR, 2, key, sizeof key, 64, 0);
+    struct crisp_answer a = installs(table, 0);
     if (a.reply != CRISP_DONE) return 1;
     size_t slot = a.slot;
 
@@ -92,10 +111,16 @@ int main(void)
     forged.bytes[20] ^= 1;
     forged.bytes[9] += 1;               /* another number, and a check value that cannot be right */
     if (arrives(table, &forged) != CRISP_WRONG_ICV || lists(table, slot) != CRISP_DONE) return 1;
-    if (crisp_remove(table, slot).reply != CRISP_DONE) return 1;
 
-    /* the key has a past: it starts behind all that was accepted, and with start 0 all three would pass once more */
-    a = crisp_install(replacement, 1, keyid, sizeof keyid, source, sizeof source - 1, CRISP_MAGMA_CTR, 2, key, sizeof key, 64, next);
+    /* the listing is from after the last arrival; by an older one, or by none, messages would pass once more */
+    if (restarts(table)) return 1;
+    for (int i = 0; i < 3; i++)
+        if (arrives(table, &packets[i]) != CRISP_REPEATED) return 1;
+    if (sends(&sender, "18.6 GJ", &packets[0]) != CRISP_DONE || arrives(table, &packets[0]) != CRISP_DONE) return 1;
+    if (lists(table, slot) != CRISP_DONE || crisp_remove(table, slot).reply != CRISP_DONE) return 1;
+
+    /* the key has a past: it starts behind all that was accepted, and with start 0 all would pass once more */
+    a = installs(replacement, next);
     if (a.reply != CRISP_DONE) return 1;
     for (int i = 0; i < 3; i++)
         if (arrives(replacement, &packets[i]) != CRISP_BELOW_FLOOR) return 1;

@@ -34,6 +34,29 @@ static int longest(uint8_t suite)
     return a.reply != CRISP_DONE || a.length != CRISP_OUT || 3 + sender.keyid_len + 6 + length + CRISP_ICV(suite) != a.length;
 }
 
+/* the listing in `out` is loaded into the entry, once it stands anew */
+static int restores(size_t slot, size_t length)
+{
+    struct crisp_answer a;
+    a = crisp_load(table, CRISP_NOTHING, 0);
+    if (a.reply != CRISP_BAD_TEXT) return 1;
+    a = crisp_load(table, out, length);
+    if (a.reply != CRISP_NOT_STANDING) return 1;
+    a = crisp_remove(table, slot);
+    if (a.reply != CRISP_DONE) return 1;
+    a = crisp_install(table, 0, sender.keyid, sender.keyid_len, sender.source, sender.source_len, sender.suite, sender.edition, sender.key, CRISP_KEY,
+                      CRISP_SIZE, 0);
+    if (a.reply != CRISP_DONE || a.slot != slot) return 1;
+    out[length - 10] = '0';                     /* nothing accepted, with a number that is marked */
+    a = crisp_load(table, out, length);
+    if (a.reply != CRISP_WOULD_BE_DAMAGED) return 1;
+    out[length - 10] = '1';
+    a = crisp_load(table, out, length);
+    if (a.reply != CRISP_DONE || a.slot != slot || a.length != 0 || a.seqnum != 0) return 1;
+    a = crisp_receive(table, message, 14, CRISP_NOTHING, 0, out, sizeof out);
+    return a.reply != CRISP_REPEATED;
+}
+
 int main(void)
 {
     struct crisp_answer a;
@@ -58,6 +81,7 @@ int main(void)
     if (a.reply != CRISP_DONE || a.length != 0 || a.seqnum != 1) return 3;
     a = crisp_listing(table, a.slot, out, sizeof out);
     if (a.reply != CRISP_DONE) return 4;
+    if (restores(a.slot, a.length)) return 12;
     if (crisp_capture_order(message, sizeof message) != CRISP_BAD_CAPTURE) return 6;
     r = crisp_capture_record(message, sizeof message, CRISP_BAD_CAPTURE, CRISP_CAPTURE_HEADER);
     if (r.reply != CRISP_BAD_CAPTURE || r.source != r.next || r.message != r.next || r.next != sizeof message) return 7;

@@ -742,15 +742,21 @@ static void load_anything(void)
     call_load(t.bytes, t.length);
 }
 
-/* whether the entry was changed by a message that arrived now */
+/* whether the entry was changed by a message that arrived now, from a sender with its KeyId */
 static int arrives_at(size_t slot)
 {
     uint8_t before[SLOT];
     memcpy(before, table + SLOT * slot, SLOT);
-    if (below(2)) return 0;
-    random_protect((int)below(4), 1);
-    random_receive();
+    for (int i = 0; i < ENTRIES && below(4); i++)
+        if (!memcmp(senders[i].keyid, before + KEYID, CRISP_KEYID)) random_protect(i, 1), random_receive();
     return memcmp(before, table + SLOT * slot, SLOT) != 0;
+}
+
+/* a text that was printed before, or the last one where it is the first */
+static const struct text *any_printed(void)
+{
+    int behind = prints < PRINTED ? prints : PRINTED;
+    return &printed[(prints - 1 - (behind > 1 ? 1 + (int)below((uint64_t)behind - 1) : 0)) % PRINTED];
 }
 
 static void random_load(void)
@@ -763,7 +769,7 @@ static void random_load(void)
     call_listing(slot, 2048);
     if (answered.reply) return;
     static struct text own, other;
-    own = printed[(prints - 1) % PRINTED], other = printed[below((uint64_t)(prints < PRINTED ? prints : PRINTED))];
+    own = printed[(prints - 1) % PRINTED], other = *any_printed();
     int older = arrives_at(slot), stands = !below(8);
     if (!stands && !stands_again(slot)) return;
     split(&own, &l);

@@ -9,6 +9,8 @@
 
 static uint8_t table[CRISP_TABLE], out[CRISP_OUT], message[CRISP_OUT], payload[64];
 static struct crisp_sender sender;
+static uint8_t listing[CRISP_OUT];
+static size_t listed;                   /* the listing's length */
 static struct crisp_answer answer;
 static int forgets;
 
@@ -25,6 +27,12 @@ static void protect(void)
 static void receive(void)
 {
     answer = crisp_receive(table, message, answer.length, sender.source, 32, out, sizeof out);
+    if (forgets) crisp_forget();
+}
+
+static void load(void)
+{
+    answer = crisp_load(table, listing, listed);
     if (forgets) crisp_forget();
 }
 
@@ -81,6 +89,11 @@ static int look_at_calls(uint8_t suite)
         bad |= forgets ? n != 0 : n <= 0;
         n = look("receive", receive);
         bad |= forgets ? n != 0 : n <= 0;
+        listed = crisp_listing(table, 0, listing, sizeof listing).length;
+        memset(table, 0, sizeof table);
+        install();
+        n = look("load", load);
+        bad |= forgets ? n != 0 : n < 0;
     }
     return bad;
 }
