@@ -273,8 +273,8 @@ struct crisp_answer crisp_listing(const uint8_t table[CRISP_AT_LEAST CRISP_TABLE
  *   21  where the text is not in the form that crisp_listing writes: the twelve lines in their order, each ended by one line feed, nothing behind the
  *       last, no spaces; decimals without leading zeros and at most 2^64 - 1; hex in lower case, 12 digits of `highest=` and 64 of `marks=`, of `keyid=`
  *       and `source=` any even count;
- *   22  where no such entry stands: the slot is over 15 or free, or its flag, KeyId, source, suite, edition, size or start is another, or it has
- *       accepted a message, or its stored KeyId or source is longer than its room;
+ *   22  where no such entry stands: the slot is over 15 or free, or its flag, KeyId, source, suite, edition, size or start is another, or its
+ *       accepted total is not 0, or its stored KeyId or source is longer than its room;
  *   23  where the record would be damaged, as CRISP_TABLE says above, by what is listed or by key data that is unsound already.
  * Any bytes of any length are safe to hand in.
  *
@@ -284,7 +284,7 @@ struct crisp_answer crisp_listing(const uint8_t table[CRISP_AT_LEAST CRISP_TABLE
  * wrong one, remove it and install it again. A listing by version 1 or 2 has no line `edition=`, and one by version 1 no `start=`, so it is refused with
  * 21: it loads once `edition=2` was put behind `suite=`, and `start=0` behind `size=`.
  *
- * An old text is as bad as an old table: each message that was accepted after it was made passes once more. So list after the last arrival, save the
+ * An old text is as bad as an old table: each message that was accepted after it was made can pass once more. So list after the last arrival, save the
  * text before the payload is used, and in the same file what is to become of the payload. Nothing in the text shows that it was changed. Whoever can
  * change it can open the window to old messages, or shut it to true ones: keep it as safe as the table, though it tells no key. */
 CRISP_CALL CRISP_READS(2, 3)
@@ -302,7 +302,8 @@ struct crisp_answer crisp_load(uint8_t table[CRISP_AT_LEAST CRISP_TABLE], const 
  *
  * Where a record runs past the end, its reply 18 is the last before CRISP_END. What was received before it stands. A file that is read once more,
  * whatever other files came in between, hands out nothing, unless entries were installed or removed since; an entry that is installed with a start
- * above the file's numbers, or has loaded a listing from after the file was read, hands out nothing of it either. examples/capture.c among the sources reads a file so.
+ * above the file's numbers, or has loaded a listing from after the file was read, hands out nothing of it either. examples/capture.c among the sources
+ * reads a file so.
  *
  * The first answers the order of the file's numbers, 1 (highest byte first) or 2 (lowest), or 17 (header bad, or size not 24 to 65,536 bytes). Hand
  * the order to the second as it came. */

@@ -1,6 +1,7 @@
 /* compare.c: runs the library beside the second implementation (reference.c) on seeded random sequences of calls and on sweeps, and compares after
- * every call the four numbers of the answer, all bytes of the table, of the sender's record and of the output. At the first difference it prints
- * the sequence that showed it and stops.
+ * every call the four numbers of the answer, all bytes of the table, of the sender's record and of the output. At times all entries are listed, the table
+ * is lost, and their listings are loaded: the table must be what it was, and the same calls must then do the same on both. At the first difference it
+ * prints the sequence that showed it and stops.
  *
  *   compare [SEQUENCES [SEED]]        100000 sequences and seed 1 where nothing is said */
 #include "crisp.h"
@@ -552,8 +553,8 @@ static void make_history(struct history *h)
     h->bytes = below(2) ? CRISP_PAYLOAD * h->accepted : below(CRISP_PAYLOAD * h->accepted + 1);
 }
 
-/* x, or now and then any number above it */
-static uint64_t from(uint64_t x) { return below(2) ? x : x + below(UINT64_MAX - x); }
+/* that number, or any above it */
+static uint64_t at_least(uint64_t x) { return below(2) ? x : x + below(UINT64_MAX - x); }
 
 /* what is wrong with a mark of that place, or RECORD */
 static enum record outside(const struct history *h, uint64_t i)
@@ -578,8 +579,8 @@ static int damage_history(struct history *h, enum record way)
     case FEW:
         if (h->count == 0) return 0;
         return h->accepted = below(2) ? h->count - 1 : below(h->count), h->bytes = 0, 1;
-    case MANY: return h->accepted = from(most + 1), h->bytes = 0, 1;
-    default: return h->bytes = from(CRISP_PAYLOAD * h->accepted + 1), 1;
+    case MANY: return h->accepted = at_least(most + 1), h->bytes = 0, 1;
+    default: return h->bytes = at_least(CRISP_PAYLOAD * h->accepted + 1), 1;
     }
 }
 
@@ -593,7 +594,7 @@ static void damage_key_data(struct lines *l, size_t slot)
 {
     size_t at = SLOT * slot;
     uint8_t x = (uint8_t)(3 + below(200));
-    uint64_t size = below(2) ? 257 + below(3) : 0, start = from(CRISP_LAST + 1ULL);
+    uint64_t size = below(2) ? 257 + below(3) : 0, start = at_least(CRISP_LAST + 1ULL);
     switch (below(7)) {
     case 0: put(at + FLAG, x), set_number(l, AT_FLAG, x); break;
     case 1: put(at + SUITE, x), set_number(l, AT_SUITE, x); break;
@@ -1129,6 +1130,7 @@ static void sweep_decimals(void)
         uint64_t own = number(&listed_lines, line);
         for (int i = 0; i < NOT_DECIMAL; i++) load_with(line, not_decimal[i]);
         for (size_t i = 0; i < sizeof around / sizeof *around; i++) snprintf(value, sizeof value, around[i], listed_lines.of[line]), load_with(line, value);
+        snprintf(value, sizeof value, "184467440737095%llu", 51616 + (unsigned long long)own), load_with(line, value);     /* its own and 2^64 */
         for (int bit = 0; bit < 64; bit++)
             for (uint64_t x = 0; x < 3; x++) load_number(line, own + (1ULL << bit) - x), load_number(line, (1ULL << bit) - x);
         for (uint64_t x = 0; x <= 300; x++) load_number(line, x), load_number(line, 18446744073709551615ULL - x);
