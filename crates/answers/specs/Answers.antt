@@ -92,3 +92,17 @@ lengthsDiffer = 19
 -- record empty, or identifier runs past the record
 abbrev pub unreadable : ℕ
 unreadable = 20
+
+-- ---- 02, No. 6
+
+-- text not in this form
+abbrev pub badText : ℕ
+badText = 21
+
+-- no such entry with accepted 0
+abbrev pub notStanding : ℕ
+notStanding = 22
+
+-- the loaded record would be damaged
+abbrev pub wouldBeDamaged : ℕ
+wouldBeDamaged = 23

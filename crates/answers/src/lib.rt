@@ -54,6 +54,12 @@ pub const LENGTHS_DIFFER: u64 = 19;
 
 pub const UNREADABLE: u64 = 20;
 
+pub const BAD_TEXT: u64 = 21;
+
+pub const NOT_STANDING: u64 = 22;
+
+pub const WOULD_BE_DAMAGED: u64 = 23;
+
 // Bytes that an output has to have, whatever is written into it.
 pub const OUTPUT: usize = 2048;
 

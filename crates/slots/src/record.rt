@@ -53,7 +53,7 @@ pub fn is_undamaged(slot: &[u8]) -> bool
 }
 
 // Whether a slot's key data is sound.
-fn is_sound(slot: &[u8]) -> bool
+pub fn is_sound(slot: &[u8]) -> bool
     requires { ⌜ length (now slot) ≡ slotLength ⌝ }
     ensures { λ r. ⌜ r ≡ soundOf (keyDataOf (now (slot .entry))) ⌝ }
 {
@@ -88,7 +88,7 @@ pub fn take(table: &mut [u8], slot: usize, window: Window, number: u64, payload:
 }
 
 // The window and the totals of an entry are written into its slot.
-fn settle(table: &mut [u8], slot: usize, window: Window, accepted: u64, bytes: u64)
+pub fn settle(table: &mut [u8], slot: usize, window: Window, accepted: u64, bytes: u64)
     requires { ⌜ (length (now table) ≡ tableLength) × (slot < slotCount) ⌝ }
     ensures { λ _. ⌜ now (table .exit) ≡ settled (now (table .entry)) slot (record { window = viewOf window; accepted = accepted; bytes = bytes }) ⌝ }
 {

@@ -12,11 +12,11 @@ use Rattle.text.specs.Text.{decimalIn, decimalOf}
 use Rattle.octets.proofs.Places.{Written}
 use Rattle.text.proofs.Lines.{byte-written, byte-further}
 
-small : (n x : ℕ) → x < 10 → decimalIn (suc n) x ≡ (48 + x) ∷ []
+pub small : (n x : ℕ) → x < 10 → decimalIn (suc n) x ≡ (48 + x) ∷ []
 unfolding decimalIn
 small n x h = rw (lt-ltb x 10 h)
 
-large : (n x : ℕ) → 10 ≤ x → decimalIn (suc n) x ≡ decimalIn n (x / 10) ++ ((48 + x % 10) ∷ [])
+pub large : (n x : ℕ) → 10 ≤ x → decimalIn (suc n) x ≡ decimalIn n (x / 10) ++ ((48 + x % 10) ∷ [])
 unfolding decimalIn
 large n x h = rw (le-ltb x 10 h)
 
@@ -63,7 +63,7 @@ module _ (x : ℕ) (word : x < 2 ^ 64) (long : 10 ≤ x) where
   pub length-front : length (decimalOf (x / 10)) ≤ 19
   length-front = rw (← same) (most 19 (x / 10))
 
-  next-digit : decimalOf x ≡ decimalOf (x / 10) ++ ((48 + x % 10) ∷ [])
+  pub next-digit : decimalOf x ≡ decimalOf (x / 10) ++ ((48 + x % 10) ∷ [])
   next-digit = large 19 x long ∙ ap (λ (t : List ℕ). t ++ ((48 + x % 10) ∷ [])) same
 
   -- the last digit is written behind the others

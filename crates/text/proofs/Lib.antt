@@ -1,3 +1,9 @@
+pub mod ByteLines
 pub mod Decimals
 pub mod Hex
 pub mod Lines
+pub mod PrintedRead
+pub mod ReadDecimals
+pub mod ReadHex
+pub mod ReadPrinted
+pub mod Unhexed

@@ -1,1 +1,3 @@
 pub mod Text
+pub mod Reading
+pub mod Found

@@ -1,11 +1,13 @@
-// Numbers and bytes as text: decimals, hex, and fields and lines of it.
+// Numbers and bytes as text: decimals, hex, and fields and lines of it, written here and read in `reading`.
 ghost use mathlib.Core.Path.{_≡_};
 ghost use Prim.Native.Nat.{_+_, _*_, _≤_, _<_};
 ghost use lib.ListN.{length};
 ghost use Rattle.octets.specs.Octets.{put};
 ghost use Rattle.text.specs.Text.{decimalOf, glyph, hexOf, decimalField, decimalLine, hexLine};
 
-const LINE_FEED: u8 = 10;
+pub mod reading; // reading.rt: lines, read from a place
+
+pub(crate) const LINE_FEED: u8 = 10;
 
 // A name, a number in decimal and a line feed are written at `at`. Answers where they end.
 pub fn write_decimal_line(name: &[u8], number: u64, out: &mut [u8], at: usize) -> usize
