@@ -1,22 +1,11 @@
 -- Four readings in a row, each in the text that the one before it left: the first that fails decides; where all succeed, so do their values; and what
 -- all of them came to tells what each came to.
 -- Assumes nothing.
-use mathlib.Core.Path.{_≡_, refl, subst}
+use mathlib.Core.Path.{_≡_, subst}
 use mathlib.Core.List.{List}
 use Prim.Native.Nat.{ℕ}
 use Rattle.text.specs.Reading.{Read, failed, got, andThen}
-use Rattle.text.proofs.ReadPrinted.{got-value, got-rest, never}
-
--- a value that was read on the way, and the text behind it
-pub record Through (A B : Type 0) (o : Read A) (f : A → List ℕ → Read B) (y : B) (rest : List ℕ) : Type 0 where
-  pub value : A
-  pub left : List ℕ
-  pub is : o ≡ got value left
-  pub next : f value left ≡ got y rest
-
-pub through : {A B : Type 0} (o : Read A) (f : A → List ℕ → Read B) (y : B) (rest : List ℕ) → andThen o f ≡ got y rest → Through A B o f y rest
-through failed f y rest e = never e
-through (got x l) f y rest e = record { value = x; left = l; is = refl; next = e }
+use Rattle.text.proofs.ReadPrinted.{got-value, got-rest, through}
 
 module _ {A B C D E : Type 0} (a : List ℕ → Read A) (b : List ℕ → Read B) (c : List ℕ → Read C) (d : List ℕ → Read D) (f : A → B → C → D → E) where
   abbrev pub four : List ℕ → Read E

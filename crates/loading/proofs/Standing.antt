@@ -68,6 +68,9 @@ module _ (v : TermLines) (s : List ℕ) where
   unfolding settledSo
   by-start a b c = simp (eq-eqb (csOf s) (v .suite) a, eq-eqb (editionOf s) (v .edition) b, eq-eqb (frameOf s .size) (v .frame .size) c)
 
+  pub alike-terms : TermsAlike v s → settledSo v s ≡ true
+  alike-terms a = sym (by-start (a .suite-same) (a .edition-same) (a .size-same)) ∙ eq-eqb (frameOf s .start) (v .frame .start) (a .start-same)
+
   pub not-settled : (TermsAlike v s → ⊥) → false ≡ settledSo v s
   not-settled bad = refuted (settledSo v s) (λ h. bad (terms-alike h))
 
@@ -94,6 +97,9 @@ module _ (v : SettledValues) (s : List ℕ) where
   pub by-total : namedSo (v .named) s ≡ true → settledSo (v .terms) s ≡ true → eqb (entryOf s .accepted) 0 ≡ stands v s
   unfolding stands
   by-total a b = simp (a, b)
+
+  pub stand-test : Stands v s → stands v s ≡ true
+  stand-test a = sym (by-total (alike-named (v .named) s (a .named)) (alike-terms (v .terms) s (a .terms))) ∙ eq-eqb (entryOf s .accepted) 0 (a .unused)
 
   pub other-name : namedSo (v .named) s ≡ false → false ≡ stands v s
   unfolding stands

@@ -7,6 +7,7 @@ use Rattle.window.specs.declared.Frame.{Frame}
 use Rattle.format.specs.KeyData.{KeyData}
 use Rattle.answers.specs.declared.Answer.{Answer}
 use Rattle.entries.specs.Install.{Left, IsLeft, installed, removed}
+use Rattle.loading.specs.Load.{loaded}
 use Rattle.listing.specs.Listing.{IsListed, listed}
 use Rattle.gateway.specs.Receive.{IsReceived, received}
 use Rattle.capture.specs.Capture.{orderOf, recordAt}
@@ -30,6 +31,9 @@ module _ {a b : Answer} {t u : List ℕ} where
 
   pub remove-determined : (table : List ℕ) (i : ℕ) → IsLeft (removed table i) a t → IsLeft (removed table i) b u → (a ≡ b) × (t ≡ u)
   remove-determined table i = left-determined
+
+  pub load-determined : (table text : List ℕ) → IsLeft (loaded table text) a t → IsLeft (loaded table text) b u → (a ≡ b) × (t ≡ u)
+  load-determined table text = left-determined
 
   pub listing-determined : (table : List ℕ) (i : ℕ) (out : List ℕ) → IsListed (listed table i out) a t → IsListed (listed table i out) b u → (a ≡ b) × (t ≡ u)
   listing-determined table i out p q = (same (p .answers) (q .answers), same (p .writes) (q .writes))

@@ -7,9 +7,11 @@ pub mod Determined
 pub mod Genuine
 pub mod Held
 pub mod History
+pub mod Loads
 pub mod Reading
 pub mod Refusals
 pub mod Replies
+pub mod Restarts
 pub mod RoundTrip
 pub mod Runs
 pub mod Starts

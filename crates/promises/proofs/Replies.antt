@@ -3,6 +3,7 @@
 use mathlib.Core.Path.{_≡_, refl, sym, ap, _∙_}
 use mathlib.Core.Bool.{Bool, true, false, cond, not, _&&_, and-false}
 use mathlib.Core.List.{List, [], _∷_}
+use mathlib.Core.Option as option
 use Prim.Native.Nat.{ℕ, _+_, _-_, _^_, _<_}
 use native.Mathlib.Omega.{arith}
 use borrow.Author.Tests.{eqb-true, ne-eqb, not-true}
@@ -25,6 +26,8 @@ use Rattle.format.specs.declared.suite.Numbered.the-variants.{Known, Unknown}
 use Rattle.listing.specs.Listing.{Listed, listed, listingOf}
 use Rattle.entries.specs.Fresh.{freshSlot}
 use Rattle.entries.specs.Install.{Left, installed, removed, unlessTwin, placed}
+use Rattle.loading.specs.Form.{Listing, listingIn}
+use Rattle.loading.specs.Load.{takenUp, takenUpFrom, loaded}
 use Rattle.gateway.specs.Receive.{Received, received, parsed, led, arrived, judged, checked, unsealed, handedOut, kept}
 use Rattle.lookup.specs.Lookup.{leadsTo, firstFree}
 use Rattle.slots.specs.Record.{undamaged}
@@ -44,7 +47,7 @@ use Rattle.sender.specs.declared.Sender.{Sender}
 use Rattle.format.proofs.Soundness.{sound-facts}
 use Rattle.format.proofs.Suites.{suite-number}
 use Rattle.promises.proofs.Reading.{headerIn, said-by-tests}
-use Rattle.promises.specs.Replies.{Reply, firstOf, testOf, earlier, noneFits, Exactly, isNumbered, distinct, isNothing, ofSuite, isLong, ledTo, slotIn, rightIn, receiveReplies, installReplies, removeReplies, listingReplies, reportReplies, recordReplies, protectReplies}
+use Rattle.promises.specs.Replies.{Reply, firstOf, testOf, earlier, noneFits, Exactly, isNumbered, distinct, isNothing, ofSuite, isLong, ledTo, slotIn, rightIn, receiveReplies, isListing, standsIn, loadableIn, loadReplies, installReplies, removeReplies, listingReplies, reportReplies, recordReplies, protectReplies}
 
 -- a choice between two, seen through a function or by the opposite test
 pushed : {A B : Type 0} (f : A → B) (b : Bool) (x y : A) → f (cond b x y) ≡ cond b (f x) (f y)
@@ -198,6 +201,23 @@ listing-reply t i out = by (ltb (length out) outputRoom) (ltb i slotCount && occ
     by false true false = refl
     by false true true = refl
 
+-- ---- load
+
+pub load-reply : (t text : List ℕ) → loaded t text .answer .reply ≡ firstOf (loadReplies t text)
+unfolding loaded takenUp loadReplies
+load-reply t text = by (listingIn text)
+  where
+    tested : (held sound : Bool) (done : Left) → done .answer .reply ≡ 0
+        → cond held (cond sound done (record { answer = refused 23; table = t })) (record { answer = refused 22; table = t }) .answer .reply
+        ≡ cond (not held) 22 (cond (not sound) 23 0)
+    tested false sound done z = refl
+    tested true false done z = refl
+    tested true true done z = z
+
+    by : (o : option.Option Listing) → takenUpFrom t o .answer .reply ≡ cond (not (isListing o)) 21 (cond (not (standsIn t o)) 22 (cond (not (loadableIn t o)) 23 0))
+    by option.none = refl
+    by (option.some l) = tested (standsIn t (option.some l)) (loadableIn t (option.some l)) _ refl
+
 -- ---- captures
 
 pub report-reply : (t file out : List ℕ) → reported t file out .answer .reply ≡ firstOf (reportReplies file out)
@@ -276,6 +296,10 @@ install-exactly t k f = exactly (installReplies t k f) (install-reply t k f) ref
 pub remove-exactly : (t : List ℕ) (i : ℕ) → Exactly (removed t i .answer .reply) (removeReplies t i)
 unfolding removeReplies
 remove-exactly t i = exactly (removeReplies t i) (remove-reply t i) refl
+
+pub load-exactly : (t text : List ℕ) → Exactly (loaded t text .answer .reply) (loadReplies t text)
+unfolding loadReplies
+load-exactly t text = exactly (loadReplies t text) (load-reply t text) refl
 
 pub listing-exactly : (t : List ℕ) (i : ℕ) (out : List ℕ) → Exactly (listed t i out .answer .reply) (listingReplies t i out)
 unfolding listingReplies

@@ -26,7 +26,7 @@ use Rattle.format.specs.declared.header.Parsed.the-variants.{Read, BadLength, B
 use Rattle.format.proofs.Soundness.{sound-facts}
 use Rattle.format.proofs.Room.{read-room, payload-most, number-small}
 use Rattle.message.specs.Sealing.{right, opened}
-use Rattle.slots.specs.Table.{slotOf, csOf, entryOf, settled, replaced, emptySlot, slotLength, slotCount, occupiedAt, keyDataOf}
+use Rattle.slots.specs.Table.{slotOf, csOf, keyIdLengthOf, sourceLengthOf, entryOf, settled, replaced, emptySlot, slotLength, slotCount, keyIdRoom, sourceRoom, occupiedAt, keyDataOf}
 use Rattle.slots.specs.Record.{undamaged}
 use Rattle.slots.proofs.Settled.{settled-keys, settledSlot, length-slot, as-replaced, entry-settled}
 use Rattle.slots.proofs.Slots.{slot-length}
@@ -39,10 +39,13 @@ use Rattle.entries.specs.Fresh.{freshSlot}
 use Rattle.entries.specs.Install.{installed, removed}
 use Rattle.entries.proofs.Fresh.{length-fresh, fresh-keydata}
 use Rattle.entries.proofs.Outcomes.{Refuses, Enters, Frees, install-outcome, remove-outcome}
+use Rattle.loading.specs.Form.{Listing}
+use Rattle.loading.specs.Load.{listedEntry, loaded}
+use Rattle.loading.proofs.Outcomes.{Takes, load-outcome}
 use Rattle.gateway.specs.Receive.{Received, kept, handedOut, judged, arrived, led, parsed, received}
 use Rattle.gateway.proofs.Arrivals.{other-suite, by-verdict, wrong-icv, right-icv}
 use Rattle.gateway.proofs.Cascade.{of-arrived}
-use Rattle.promises.specs.Calls.{Call, arrival, install, remove, OfBytes, called, after, isDone}
+use Rattle.promises.specs.Calls.{Call, arrival, install, remove, load, OfBytes, called, after, isDone}
 use Rattle.promises.specs.Counted.{Beginning, Message, isBelow, isUsed, isOf, Told, apart, below, used, forged, new, tested, toldOf, told}
 use Rattle.promises.specs.History.{replyTo, Handed, nothing, one, countedOf, answered, handed, ends}
 use Rattle.promises.proofs.Counting.{Agrees, verdict-agrees, still-agrees, taken-agrees}
@@ -91,6 +94,19 @@ module _ {b : Beginning} {i : ℕ} {t : List ℕ} {past : List Told} (now : Stan
   refusing : (w : Told) → countedOf w ≡ nothing → (m source out : List ℕ) (n : ℕ) → 1 ≤ n → Meets b i t past m source out w (kept t out n)
   refusing w none m source out n some = record { does = passing _ t w none (rw (ne-eqb n 0 (λ z. omega arith))) held refl; writes = λ y e h read. cc }
 
+  -- window and totals of another slot
+  settled-aside : (j : ℕ) → j < slotCount → (e : Entry) → keyIdLengthOf (slotOf t j) ≤ keyIdRoom → sourceLengthOf (slotOf t j) ≤ sourceRoom → (j ≡ i → ⊥)
+      → Held k i (settled t j e) × (slotOf (settled t j e) i ≡ slotOf t i)
+  settled-aside j small e keyid source other =
+      let long = held .long in
+      let slot = settledSlot t j e long small in
+      let full = length-slot t j e long small in
+      let keys = settled-keys (slotOf t j) e (slot-length t j long small) keyid source in
+      let mild : isNamed k slot ≡ true → isNamed k (slotOf t j) ≡ true = λ h. sym (same-matches keys (k .flag) (k .keyId) (k .source)) ∙ h in (
+        rw (as-replaced t j e long small) (held-beside held j small slot full mild other),
+        rw (as-replaced t j e long small) (slot-beside held j small slot full mild other),
+      )
+
   -- ---- an arrival that leads elsewhere
 
   module _ (h : Header) (m source out : List ℕ) where
@@ -98,21 +114,10 @@ module _ {b : Beginning} {i : ℕ} {t : List ℕ} {past : List Told} (now : Stan
     beside : (j : ℕ) → (j ≡ i → ⊥) → leadsTo t (h .flag) (keyIdBytes h m) source ≡ At j → Meets b i t past m source out apart (handedOut (payloadLength h m) t j h m out)
     unfolding handedOut
     beside j other l =
-        let long = held .long in
-        let small = leads-small t j (h .flag) (keyIdBytes h m) source l in
         let a = match-facts (h .flag) (keyIdBytes h m) source (slotOf t j) (leads-matches t j (h .flag) (keyIdBytes h m) source l) in
         let next = taken (entryOf (slotOf t j)) (h .seqnum) (payloadLength h m) in
-        let slot = settledSlot t j next long small in
-        let full = length-slot t j next long small in
-        let keys = settled-keys (slotOf t j) next (slot-length t j long small) (a .keyid-short) (a .source-short) in
-        let mild : isNamed k slot ≡ true → isNamed k (slotOf t j) ≡ true = λ e. sym (same-matches keys (k .flag) (k .keyId) (k .source)) ∙ e in
-        record {
-          does =
-              passing _ (settled t j next) apart refl (rw (ne-eqb j i other))
-              (rw (as-replaced t j next long small) (held-beside held j small slot full mild other))
-              (rw (as-replaced t j next long small) (slot-beside held j small slot full mild other));
-          writes = λ y e g read. cc;
-        }
+        let aside = settled-aside j (leads-small t j (h .flag) (keyIdBytes h m) source l) next (a .keyid-short) (a .source-short) other in
+        record { does = passing _ (settled t j next) apart refl (rw (ne-eqb j i other)) (aside .0) (aside .1); writes = λ y e g read. cc }
 
     elsewhere : (f : Found) → leadsTo t (h .flag) (keyIdBytes h m) source ≡ f → (f ≡ At i → ⊥) → Meets b i t past m source out apart (led f t h m out)
     elsewhere Nothing l other = refusing apart refl m source out noEntry (lit≤ tt)
@@ -269,7 +274,19 @@ module _ {b : Beginning} {i : ℕ} {t : List ℕ} {past : List Told} (now : Stan
           (replacing j (f .small) (eqb-false j i (rw (f .is) at goes)) emptySlot (length-replicate {A = ℕ} slotLength 0)
           (sym (no-match (k .flag) (k .keyId) (k .source) emptySlot (λ a. a .held refl))))
 
+  loads : (text : List ℕ) → isDone i (loaded t text .answer) ≡ false → Does b i t past nothing (loaded t text .table) apart
+  loads text goes = by (load-outcome t text)
+    where
+      by : Refuses t (loaded t text) ⊎ ((l : Listing) × Takes t text l) → Does b i t past nothing (loaded t text .table) apart
+      by (inl r) = rw (r .is) (passing nothing t apart refl refl held refl)
+      by (inr (l, n)) =
+          let j = l .settled .named .slot in
+          let alike = n .stands .named .alike in
+          let aside = settled-aside j (n .small) (listedEntry l) (alike .keyid-short) (alike .source-short) (eqb-false j i (rw (n .is) at goes)) in
+          rw (n .is) (passing nothing (settled t j (listedEntry l)) apart refl refl (aside .0) (aside .1))
+
   pub step : (c : Call) → OfBytes c → ends i c (called t c .answer) ≡ false → Does b i t past (handed i t c) (after t c) (told b past c)
   step (arrival m source out) bytes goes = arrives m source out bytes .does
   step (install other f) bytes goes = installs other f bytes
   step (remove j) bytes goes = removes j goes
+  step (load text) bytes goes = loads text goes

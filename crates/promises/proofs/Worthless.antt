@@ -12,7 +12,7 @@ use lib.ListN.{length}
 use Rattle.numbers.proofs.Tests.{and-left, and-right}
 use Rattle.answers.specs.declared.Answer.{Answer}
 use Rattle.slots.specs.Table.{slotOf, entryOf}
-use Rattle.promises.specs.Calls.{Call, arrival, install, remove, OfBytes, called, isDone}
+use Rattle.promises.specs.Calls.{Call, arrival, install, remove, load, OfBytes, called, isDone}
 use Rattle.promises.specs.Counted.{Beginning, Message, Told, new, told}
 use Rattle.promises.specs.History.{nothing, one, answered, countedOf, Accounts}
 
@@ -26,7 +26,7 @@ pub record Gives (i : ℕ) (a : Answer) (x : Message) : Type 0 where
 nothing-given : {x : Message} → nothing ≡ one x → ⊥
 nothing-given e = let z : _≡_ {A = ℕ} 0 1 = cc in omega arith
 
-answered-gives : (i : ℕ) (c : Call) (a : Answer) (x : Message) → answered i c a ≡ one x → Gives i a x
+pub answered-gives : (i : ℕ) (c : Call) (a : Answer) (x : Message) → answered i c a ≡ one x → Gives i a x
 answered-gives i (arrival m source out) a x e = by (isDone i a) refl e
   where
     by : (d : Bool) → isDone i a ≡ d → cond d (one (record { number = a .seqnum; payload = a .length })) nothing ≡ one x → Gives i a x
@@ -41,6 +41,7 @@ answered-gives i (arrival m source out) a x e = by (isDone i a) refl e
     by false d e = absurd (nothing-given e)
 answered-gives i (install k f) a x e = absurd (nothing-given e)
 answered-gives i (remove j) a x e = absurd (nothing-given e)
+answered-gives i (load text) a x e = absurd (nothing-given e)
 
 module _ {b : Beginning} {i : ℕ} {t : List ℕ} {past : List Told} (a : Accounts b i t past) where
   -- Not all is refused: a counted message is handed out at the slot.

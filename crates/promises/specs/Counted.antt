@@ -18,7 +18,7 @@ use Rattle.message.specs.Sealing.{right}
 use Rattle.format.specs.declared.header.Header.{Header}
 use Rattle.format.specs.declared.header.Parsed.{Parsed}
 use Rattle.format.specs.declared.header.Parsed.the-variants.{Read, BadLength, BadVersion, BadSuite, TooShort}
-use Rattle.promises.specs.Calls.{Call, arrival, install, remove}
+use Rattle.promises.specs.Calls.{Call, arrival, install, remove, load}
 
 -- ---- where a history begins
 
@@ -35,7 +35,8 @@ pub record Beginning : Type 0 where
 abbrev pub fresh : KeyData → Frame → Beginning
 fresh k f = record { keys = k; frame = f; highest = 0; used = λ n. false; accepted = 0; bytes = 0 }
 
--- that of any entry: used is what is marked, and all below its floor
+-- that of any entry: used is what is marked, and all below its floor. So it is after a load, with the listed window and totals (02, No. 6: "A load
+-- begins a new history: demand 3's totals start from the listed ones, and listed marks and numbers below the listed floor count as used.")
 abbrev pub standing : KeyData → Entry → Beginning
 standing k e = record {
   keys = k;
@@ -133,6 +134,7 @@ abbrev pub told : Beginning → List Told → Call → Told
 told b past (arrival message source out) = cond (ltb (length out) outputRoom) apart (toldOf b past (readOf message) message source)
 told b past (install k f) = apart
 told b past (remove i) = apart
+told b past (load text) = apart
 
 -- the past after further calls, and after all calls since the beginning
 abbrev pub toldFrom : Beginning → List Told → List Call → List Told
@@ -165,6 +167,7 @@ isCounted b past (arrival message source out) =
     && not (isUsed b past (seqNumIn message))
 isCounted b past (install k f) = false
 isCounted b past (remove i) = false
+isCounted b past (load text) = false
 
 abbrev pub isNew : Told → Bool
 isNew apart = false

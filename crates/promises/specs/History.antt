@@ -1,9 +1,10 @@
 -- Demand 3, of a slot of a table: "Exactly the counted messages are handed out, and after each call the entry's two totals are how many
 -- different numbers were counted and the sum of their payload lengths." A history begins with any undamaged entry, a fresh one or one that
--- has a past, and goes on until the entry is removed.
+-- has a past, and goes on until the entry is removed or takes a listing.
 use mathlib.Core.Path.{_≡_}
 use mathlib.Core.Bool.{Bool, true, false, cond}
 use mathlib.Core.List.{List, [], _∷_}
+use mathlib.Core.Option.{some}
 use Prim.Native.Nat.{ℕ, _+_, _≤_}
 use lib.ListN.{length}
 use Rattle.answers.specs.Answers.{outputRoom, otherSuite, belowFloor, repeated, wrongIcv}
@@ -11,14 +12,16 @@ use Rattle.answers.specs.declared.Answer.{Answer}
 use Rattle.octets.specs.Octets.{Bytes}
 use Rattle.window.specs.Window.{floorOf, marked}
 use Rattle.format.specs.Header.{readOf}
+use Rattle.format.specs.KeyData.{KeyData}
 use Rattle.format.specs.declared.header.Header.{Header}
 use Rattle.format.specs.declared.header.Parsed.the-variants.{Read}
 use Rattle.slots.specs.Table.{slotOf, windowOf, entryOf, keyDataOf, tableLength}
 use Rattle.slots.specs.Record.{undamaged}
 use Rattle.lookup.specs.Lookup.{leadsTo}
 use Rattle.lookup.specs.declared.Found.the-variants.{At}
+use Rattle.loading.specs.Form.{Listing, listingIn}
 use Rattle.gateway.specs.Receive.{Received}
-use Rattle.promises.specs.Calls.{Call, arrival, install, remove, OfBytes, called, results, isDone}
+use Rattle.promises.specs.Calls.{Call, arrival, install, remove, load, OfBytes, called, results, isDone}
 use Rattle.promises.specs.Counted.{Beginning, Message, Told, apart, below, used, forged, new, messages, numbersOf, numbers, isIn, highestSince, isOf, told}
 
 -- ---- where a history begins in a table
@@ -38,11 +41,13 @@ pub record Begins (b : Beginning) (i : ℕ) (t : List ℕ) : Type 0 where
 
 -- ---- how long it goes on, by what came back
 
--- "a removed entry's history is over": a removal that is done at slot i ends it; one that is refused does not
+-- "a removed entry's history is over": a removal that is done at slot i ends it, and so does a load there, which "begins a new history" (02, No. 6);
+-- one that is refused does not
 abbrev pub ends : ℕ → Call → Answer → Bool
 ends i (arrival message source out) a = false
 ends i (install k f) a = false
 ends i (remove j) a = isDone i a
+ends i (load text) a = isDone i a
 
 -- calls of bytes, none of which ended it
 abbrev pub Unended : ℕ → List Call → List Received → Type 0
@@ -53,11 +58,12 @@ Unended i [] rs = Unit {0}
 abbrev pub GoesOn : ℕ → List ℕ → List Call → Type 0
 GoesOn i t cs = Unended i cs (results t cs)
 
--- calls of bytes of which none asks for the removal of slot i do not end it in any table (`spared`)
+-- calls of bytes of which none asks for the removal of slot i, or has its listing, do not end it in any table (`spared`)
 abbrev pub Spares : ℕ → Call → Type 0
 Spares i (arrival message source out) = Unit {0}
 Spares i (install k f) = Unit {0}
 Spares i (remove j) = j ≡ i → ⊥
+Spares i (load text) = (l : Listing) → listingIn text ≡ some l → l .settled .named .slot ≡ i → ⊥
 
 abbrev pub SpareAll : ℕ → List Call → Type 0
 SpareAll i [] = Unit {0}
@@ -74,6 +80,7 @@ abbrev pub answered : ℕ → Call → Answer → Handed
 answered i (arrival message source out) a = cond (isDone i a) (one (record { number = a .seqnum; payload = a .length })) nothing
 answered i (install k f) a = nothing
 answered i (remove j) a = nothing
+answered i (load text) a = nothing
 
 abbrev pub handed : ℕ → List ℕ → Call → Handed
 handed i t c = answered i c (called t c .answer)
@@ -138,3 +145,13 @@ pub record Accounts (b : Beginning) (i : ℕ) (t : List ℕ) (past : List Told) 
   pub keys : keyDataOf (slotOf t i) ≡ b .keys
   pub frame : windowOf (slotOf t i) .frame ≡ b .frame
   pub unharmed : undamaged (slotOf t i) ≡ true
+
+-- ---- two gateways
+
+-- Two tables do the same for an entry in slot i: its window and totals are the same, and the next call hands out the same there; and a message of it
+-- is answered alike and leaves the same in the output.
+pub record Alike (k : KeyData) (i : ℕ) (t u : List ℕ) : Type 0 where
+  pub entries : entryOf (slotOf t i) ≡ entryOf (slotOf u i)
+  pub hands : (c : Call) → OfBytes c → handed i t c ≡ handed i u c
+  pub answers : (message source out : List ℕ) → Bytes message → (h : Header) → readOf message ≡ Read h → isOf k h message source ≡ true
+      → let a = called t (arrival message source out) in let b = called u (arrival message source out) in (a .answer ≡ b .answer) × (a .out ≡ b .out)

@@ -1,7 +1,8 @@
--- Each reply's own case (01, "Replies"; 02, No. 1, 2 and 4), and the rule that joins them: the first that fits, in the listed order, is given; where none fits, 0.
+-- Each reply's own case (01, "Replies"; 02, No. 1, 2, 4 and 6), and the rule that joins them: the first that fits, in the listed order, is given; where none fits, 0.
 use mathlib.Core.Path.{_≡_}
 use mathlib.Core.Bool.{Bool, true, false, cond, not, _||_, _&&_}
 use mathlib.Core.List.{List, [], _∷_}
+use mathlib.Core.Option.{Option, none, some}
 use Prim.Native.Nat.{ℕ, _+_, _-_, _^_}
 use lib.Dec.{eqb, ltb}
 use lib.ListN.{length}
@@ -24,6 +25,8 @@ use Rattle.lookup.specs.Lookup.{leadsTo, firstFree}
 use Rattle.slots.specs.Record.{undamaged}
 use Rattle.lookup.specs.declared.Found.{Found}
 use Rattle.lookup.specs.declared.Found.the-variants.{At, Nothing}
+use Rattle.loading.specs.Form.{Listing, listingIn}
+use Rattle.loading.specs.Load.{stands, listedEntry, loadable}
 use Rattle.capture.specs.Capture.{recordLength, magicOf, isBad, capturedAt, originalAt, isCut, isUnreadable}
 use Rattle.capture.specs.declared.order.Order.{Order}
 use Rattle.feed.specs.Report.{textRoom}
@@ -167,6 +170,31 @@ listingReplies t i out =
     ∷ reply 16 (not (ltb i slotCount && occupied (slotOf t i)))
     -- record damaged
     ∷ reply 7 (not (undamaged (slotOf t i)))
+    ∷ []
+
+-- ---- load
+
+-- whether a text is a listing, whether its entry stands with accepted 0, and whether it would be undamaged
+abbrev pub isListing : Option Listing → Bool
+isListing none = false
+isListing (some l) = true
+
+abbrev pub standsIn : List ℕ → Option Listing → Bool
+standsIn t none = false
+standsIn t (some l) = let i = l .settled .named .slot in ltb i slotCount && stands (l .settled) (slotOf t i)
+
+abbrev pub loadableIn : List ℕ → Option Listing → Bool
+loadableIn t none = false
+loadableIn t (some l) = loadable (slotOf t (l .settled .named .slot)) (listedEntry l)
+
+unfoldable pub loadReplies : List ℕ → List ℕ → List Reply
+loadReplies t text =
+    -- text not in this form
+    reply 21 (not (isListing (listingIn text)))
+    -- no such entry with accepted 0
+    ∷ reply 22 (not (standsIn t (listingIn text)))
+    -- the loaded record would be damaged
+    ∷ reply 23 (not (loadableIn t (listingIn text)))
     ∷ []
 
 -- ---- captures

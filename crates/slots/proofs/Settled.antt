@@ -6,10 +6,10 @@ use mathlib.Core.Logic.{inl}
 use Prim.Native.Nat.{ℕ, _+_, _-_, _*_, _≤_, _<_}
 use native.Mathlib.Omega.{arith}
 use lib.Dec.{lit≤}
-use lib.ListN.{length, getD, take, drop, length-append, length-drop}
-use lib.Seq.{getD-drop, length-take-le}
-use Rattle.octets.specs.Octets.{bigEndian, bytesOf, part, put}
-use Rattle.octets.proofs.BigEndian.{length-bytes}
+use lib.ListN.{length, getD, take, drop, length-append, length-drop, take-append-drop}
+use lib.Seq.{getD-drop, length-take-le, take-add, drop-drop}
+use Rattle.octets.specs.Octets.{Bytes, bigEndian, bytesOf, part, put}
+use Rattle.octets.proofs.BigEndian.{length-bytes, bytes-number, bytes-drop}
 use Rattle.octets.proofs.Parts.{number-same, put-below, part-other, put-within}
 use Rattle.octets.proofs.Places.{length-put}
 use Rattle.format.proofs.Soundness.{key-data-is}
@@ -17,7 +17,7 @@ use Rattle.window.specs.declared.Frame.{Frame}
 use Rattle.window.specs.Entry.{Entry}
 use Rattle.window.proofs.Entries.{UndamagedEntry, totals-small}
 use Rattle.window.proofs.Undamaged.{undamaged-facts, marks-small}
-use Rattle.slots.specs.Table.{slotOf, flagOf, csOf, editionOf, keyIdLengthOf, keyIdOf, sourceLengthOf, sourceOf, keyOf, keyDataOf, windowOf, entryOf, historyBytes, settled, replaced, slotLength, slotCount, tableLength, occupiedAt, flagAt, suiteAt, editionAt, keyIdLengthAt, keyIdAt, keyIdRoom, sourceLengthAt, sourceAt, sourceRoom, keyAt, sizeAt, startAt, highestAt, replaysAt}
+use Rattle.slots.specs.Table.{slotOf, flagOf, csOf, editionOf, keyIdLengthOf, keyIdOf, sourceLengthOf, sourceOf, keyOf, keyDataOf, windowOf, entryOf, historyBytes, settled, replaced, slotLength, slotCount, tableLength, occupiedAt, flagAt, suiteAt, editionAt, keyIdLengthAt, keyIdAt, keyIdRoom, sourceLengthAt, sourceAt, sourceRoom, keyAt, sizeAt, startAt, highestAt, marksAt, acceptedAt, bytesAt, replaysAt}
 use Rattle.slots.proofs.Replacing.{slot-own}
 use Rattle.slots.proofs.Slots.{slot-length}
 use Rattle.slots.proofs.Standing.{Lies, joined, ahead, lies, number}
@@ -114,6 +114,25 @@ module _ (s : List ℕ) (e : Entry) (long : length s ≡ slotLength) where
         number 8 (e .bytes) (there 4) (omega arith),
       )
       (ap (λ (f : Frame). record { window = record { frame = f; highest = e .window .highest; marks = e .window .marks }; accepted = e .accepted; bytes = e .bytes }) frame)
+
+-- ---- the history of a slot
+
+-- four stretches of a list in a row are one
+one-stretch : (l : List ℕ) (a b c d : ℕ) → take a l ++ take b (drop a l) ++ take c (drop (a + b) l) ++ take d (drop (a + b + c) l) ≡ take (a + b + c + d) l
+one-stretch l a b c d = sym (take-add (a + b + c) d l ∙ ap (λ (u : List ℕ). u ++ take d (drop (a + b + c) l)) (take-add (a + b) c l ∙ ap (λ (u : List ℕ). u ++ take c (drop (a + b) l)) (take-add a b l)))
+
+-- window and totals of a slot of bytes, written into a slot that has the same bytes around them, make it that slot
+module _ (s other : List ℕ) (long : length s ≡ slotLength) (b : Bytes s) where
+  history-bytes : historyBytes (entryOf s) ≡ part highestAt (replaysAt - highestAt) s
+  history-bytes =
+      let number-bytes : (at n : ℕ) → at + n ≤ slotLength → bytesOf n (bigEndian n (drop at s)) ≡ take n (drop at s) = λ at n h.
+      bytes-number n (drop at s) (rw (length-drop at s, long) (omega arith)) (bytes-drop at s b) in
+      rw (number-bytes highestAt 8 (lit≤ tt), number-bytes marksAt 32 (lit≤ tt), number-bytes acceptedAt 8 (lit≤ tt), number-bytes bytesAt 8 (lit≤ tt))
+      (rw (drop-drop 8 highestAt s, drop-drop 40 highestAt s, drop-drop 48 highestAt s) at (one-stretch (drop highestAt s) 8 32 8 8))
+
+  pub same-around : take highestAt other ≡ take highestAt s → drop replaysAt other ≡ drop replaysAt s → put other highestAt (historyBytes (entryOf s)) ≡ s
+  same-around front rest =
+      rw (length-history s (entryOf s) long, history-bytes, front, rest, ← take-add highestAt (replaysAt - highestAt) s) (take-append-drop replaysAt s)
 
 -- ---- a table
 

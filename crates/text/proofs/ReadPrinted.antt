@@ -8,13 +8,14 @@ use native.Mathlib.Omega.{arith}
 use borrow.Author.Tests.{eqb-true, leb-true, lt-ltb, le-ltb, le-leb, lt-leb}
 use lib.Dec.{eqb, leb, lit<}
 use lib.ListN.{length, take, drop, take-append-drop}
-use lib.Seq.{append-snoc}
+use lib.Seq.{append-snoc, take-all}
 use Rattle.numbers.proofs.Tests.{and-left, and-right}
-use Rattle.octets.specs.Octets.{Bytes, same}
+use Rattle.octets.specs.Octets.{Bytes, bigEndian, bytesOf, same}
+use Rattle.octets.proofs.BigEndian.{bytes-number}
 use Rattle.octets.proofs.Same.{same-true}
 use Rattle.text.specs.Text.{decimalOf, glyph, hexOf, decimalLine, hexLine}
 use Rattle.text.proofs.Decimals.{small, next-digit}
-use Rattle.text.specs.Reading.{Read, failed, got, named, isDigit, greatestDecimal, mayFollow, isHex, valueOf, withFirst, readDigits, readDecimal, readHex, readDecimalLine, readHexLine, readBytesLine, andThen}
+use Rattle.text.specs.Reading.{Read, failed, got, named, isDigit, greatestDecimal, mayFollow, isHex, valueOf, withFirst, readDigits, readDecimal, readHex, readDecimalLine, readHexLine, readBytesLine, readNumberLine, andThen}
 use Rattle.text.proofs.ReadDecimals.{digit, follows}
 
 -- what was read is of values and text as they are
@@ -26,6 +27,17 @@ got-rest e = cc
 
 pub never : {A : Type 0} {B : Type 0} {y : A} {m : List ℕ} → failed ≡ got y m → B
 never e = absurd (let z : _≡_ {A = ℕ} 0 1 = cc in omega arith)
+
+-- a value that was read on the way, and the text behind it
+pub record Through (A B : Type 0) (o : Read A) (f : A → List ℕ → Read B) (y : B) (rest : List ℕ) : Type 0 where
+  pub value : A
+  pub left : List ℕ
+  pub is : o ≡ got value left
+  pub next : f value left ≡ got y rest
+
+pub through : {A B : Type 0} (o : Read A) (f : A → List ℕ → Read B) (y : B) (rest : List ℕ) → andThen o f ≡ got y rest → Through A B o f y rest
+through failed f y rest e = never e
+through (got x l) f y rest e = record { value = x; left = l; is = refl; next = e }
 
 -- ---- a digit in hex
 
@@ -204,3 +216,18 @@ module _ (name l rest : List ℕ) where
           → (readHexLine name l ≡ got u rest) × (length u ≡ n)
       read failed p q = never q
       read (got v m) p q = counted v m (eqb (length v) n) refl p q
+
+  -- so many bytes are those of the number that they write
+  pub bytes-back : (n : ℕ) (u : List ℕ) → readBytesLine name n l ≡ got u rest → l ≡ hexLine name (bytesOf n (bigEndian n u)) ++ rest
+  bytes-back n u e =
+      let b = bytes-line-back n u e in
+      let h = hex-line-back u (b .0) in
+      let same-bytes : bytesOf n (bigEndian n u) ≡ u = bytes-number n u (omega (arith, b .1)) (h .1) ∙ take-all n u (omega (arith, b .1)) in
+      h .0 ∙ ap (λ (w : List ℕ). hexLine name w ++ rest) (sym same-bytes)
+
+pub number-back : (name l rest : List ℕ) (n x : ℕ) → readNumberLine name n l ≡ got x rest → l ≡ hexLine name (bytesOf n x) ++ rest
+unfolding readNumberLine
+number-back name l rest n x e =
+    let a = through (readBytesLine name n l) _ x rest e in
+    subst (λ (y : ℕ). l ≡ hexLine name (bytesOf n y) ++ rest) (got-value (a .next))
+    (subst (λ (m : List ℕ). l ≡ hexLine name (bytesOf n (bigEndian n (a .value))) ++ m) (got-rest (a .next)) (bytes-back name l (a .left) n (a .value) (a .is)))

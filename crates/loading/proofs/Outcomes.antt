@@ -1,0 +1,110 @@
+-- What a load comes to: a refusal, which leaves the table as it was, or done at the listed slot. Done, the slot has the same key data with the listed
+-- window and totals, undamaged, and the other slots are as they were.
+-- Assumes nothing.
+use mathlib.Core.Path.{_≡_, refl, sym, ap, _∙_}
+use mathlib.Core.Bool.{Bool, true, false, _&&_}
+use mathlib.Core.List.{List}
+use mathlib.Core.Logic.{_⊎_, inl, inr}
+use mathlib.Core.Option.{Option, none, some}
+use Prim.Native.Nat.{ℕ, _<_}
+use borrow.Author.Tests.{ltb-true}
+use lib.Dec.{ltb, lit≤}
+use lib.ListN.{length}
+use Rattle.numbers.proofs.Tests.{and-left, and-right}
+use Rattle.answers.specs.Answers.{badText, notStanding, wouldBeDamaged}
+use Rattle.format.specs.KeyData.{soundOf}
+use Rattle.window.specs.Entry.{Entry, undamagedEntry}
+use Rattle.window.proofs.Entries.{UndamagedEntry, entry-facts, entry-test}
+use Rattle.slots.specs.Table.{slotOf, keyDataOf, entryOf, settled, slotCount, tableLength}
+use Rattle.slots.specs.Record.{undamaged}
+use Rattle.slots.proofs.Damage.{undamaged-by-entry}
+use Rattle.slots.proofs.Replacing.{length-replaced, slot-other}
+use Rattle.slots.proofs.Settled.{SameKeys, same-keydata, settled-keys, settledSlot, length-slot, as-replaced, slot-settled, entry-settled}
+use Rattle.slots.proofs.Slots.{slot-length}
+use Rattle.entries.specs.Install.{doneAt}
+use Rattle.entries.proofs.Outcomes.{Refuses}
+use Rattle.loading.specs.Form.{Listing, listingIn}
+use Rattle.loading.specs.Load.{stands, listedEntry, loadable, takenUp, takenUpFrom, loaded}
+use Rattle.loading.proofs.Standing.{Stands, stand-facts, same-frame}
+
+-- the entry takes what is listed
+pub record Takes (t text : List ℕ) (l : Listing) : Type 0 where
+  pub read : listingIn text ≡ some l
+  pub small : l .settled .named .slot < slotCount
+  pub stands : Stands (l .settled) (slotOf t (l .settled .named .slot))
+  pub sound : soundOf (keyDataOf (slotOf t (l .settled .named .slot))) ≡ true
+  pub unharmed : UndamagedEntry (listedEntry l)
+  pub is : loaded t text ≡ record { answer = doneAt (l .settled .named .slot); table = settled t (l .settled .named .slot) (listedEntry l) }
+
+pub load-outcome : (t text : List ℕ) → Refuses t (loaded t text) ⊎ ((l : Listing) × Takes t text l)
+unfolding loaded takenUp
+load-outcome t text = by (listingIn text) refl
+  where
+    by : (o : Option Listing) → listingIn text ≡ o → Refuses t (takenUpFrom t (listingIn text)) ⊎ ((l : Listing) × Takes t text l)
+    by none e = inl (record { reply = badText; some = lit≤ tt; is = rw e })
+    by (some l) e = tested (ltb i slotCount && stands (l .settled) s) refl (loadable s (listedEntry l)) refl
+      where
+        i : ℕ
+        i = l .settled .named .slot
+
+        s : List ℕ
+        s = slotOf t i
+
+        tested : (a : Bool) → (ltb i slotCount && stands (l .settled) s) ≡ a → (b : Bool) → loadable s (listedEntry l) ≡ b
+            → Refuses t (takenUpFrom t (listingIn text)) ⊎ ((l : Listing) × Takes t text l)
+        tested false p b q = inl (record { reply = notStanding; some = lit≤ tt; is = rw (e, p) })
+        tested true p false q = inl (record { reply = wouldBeDamaged; some = lit≤ tt; is = rw (e, p, q) })
+        tested true p true q =
+            inr (
+              l,
+              record {
+                read = e;
+                small = ltb-true i slotCount (and-left (ltb i slotCount) (stands (l .settled) s) p);
+                stands = stand-facts (l .settled) s (and-right (ltb i slotCount) (stands (l .settled) s) p);
+                sound = and-left (soundOf (keyDataOf s)) (undamagedEntry (listedEntry l)) q;
+                unharmed = entry-facts (listedEntry l) (and-right (soundOf (keyDataOf s)) (undamagedEntry (listedEntry l)) q);
+                is = rw (e, p, q);
+              },
+            )
+
+-- ---- done
+
+module _ {t text : List ℕ} (long : length t ≡ tableLength) {l : Listing} (takes : Takes t text l) where
+  abbrev i : ℕ
+  i = l .settled .named .slot
+
+  abbrev e : Entry
+  e = listedEntry l
+
+  abbrev next : List ℕ
+  next = settled t i e
+
+  pub taken-keys : SameKeys (slotOf t i) (slotOf next i)
+  taken-keys =
+      let alike = takes .stands .named .alike in
+      rw (slot-settled t i e long (takes .small))
+      (settled-keys (slotOf t i) e (slot-length t i long (takes .small)) (alike .keyid-short) (alike .source-short))
+
+  pub taken-entry : entryOf (slotOf next i) ≡ e
+  taken-entry = entry-settled t i e long (takes .small) (takes .unharmed) (same-frame (l .settled .terms) (slotOf t i) (takes .stands .terms))
+
+  pub taken-undamaged : undamaged (slotOf next i) ≡ true
+  taken-undamaged =
+      sym (undamaged-by-entry (slotOf next i) (ap soundOf (same-keydata taken-keys) ∙ takes .sound)) ∙ ap undamagedEntry taken-entry ∙ entry-test e (takes .unharmed)
+
+  pub taken-length : length next ≡ tableLength
+  taken-length =
+      ap length (as-replaced t i e long (takes .small))
+      ∙ length-replaced t i (settledSlot t i e long (takes .small)) long (takes .small) (length-slot t i e long (takes .small))
+
+  pub taken-other : (j : ℕ) → j < slotCount → (j ≡ i → ⊥) → slotOf next j ≡ slotOf t j
+  taken-other j within other =
+      ap (λ (x : List ℕ). slotOf x j) (as-replaced t i e long (takes .small))
+      ∙ slot-other t i (settledSlot t i e long (takes .small)) long (takes .small) (length-slot t i e long (takes .small)) j within other
+
+pub load-length : (t text : List ℕ) → length t ≡ tableLength → length (loaded t text .table) ≡ tableLength
+load-length t text long = by (load-outcome t text)
+  where
+    by : Refuses t (loaded t text) ⊎ ((l : Listing) × Takes t text l) → length (loaded t text .table) ≡ tableLength
+    by (inl r) = rw (r .is) long
+    by (inr (l, n)) = rw (n .is) (taken-length long n)
