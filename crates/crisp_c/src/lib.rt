@@ -1,9 +1,10 @@
-// The gateway, the sender and the records of captures for C: seven functions over the proved ones, with the same contracts. include/crisp.h declares
+// The gateway, the sender and the records of captures for C: eight functions over the proved ones, with the same contracts. include/crisp.h declares
 // and documents them.
 ghost use mathlib.Core.Path.{_≡_};
 ghost use Rattle.format.specs.KeyData.{handedIn};
 ghost use Rattle.entries.specs.Install.{IsLeft, installed, removed};
 ghost use Rattle.listing.specs.Listing.{IsListed, listed};
+ghost use Rattle.loading.specs.Load.{loaded};
 ghost use Rattle.gateway.specs.Receive.{IsReceived, received};
 ghost use Rattle.sender.specs.Protect.{Protects};
 ghost use Rattle.capture.specs.Capture.{orderOf, orderNumber, orderNumbered, recordAt};
@@ -60,6 +61,14 @@ pub extern "C" fn crisp_listing(table: &[u8; TABLE], slot: usize, out: &mut [u8]
     ensures { λ r. ⌜ IsListed (listed (now (table .entry)) slot (now (out .entry))) r (now (out .exit)) ⌝ }
 {
     listing::listing(table, slot, out)
+}
+
+// As `loading::load`.
+#[no_mangle]
+pub extern "C" fn crisp_load(table: &mut [u8; TABLE], text: &[u8]) -> Answer
+    ensures { λ r. ⌜ IsLeft (loaded (now (table .entry)) (now (text .entry))) r (now (table .exit)) ⌝ }
+{
+    loading::load(table, text)
 }
 
 // As `sender::protect_by_value`, on a record that is lent: only its current number moves.

@@ -18,7 +18,7 @@ fn main() {
     let reply = receive(&mut table, &message[..length], &source);
     station::print_answer(reply);
     let mut lines = [0u8; OUTPUT];
-    show(&table, &mut lines);
+    station::show(&table, &mut lines);
 }
 
 // The reply to a message that came with an identifier.
@@ -26,11 +26,4 @@ fn receive(table: &mut [u8; TABLE], message: &[u8], source: &[u8]) -> u64 {
     let mut payload = [0u8; OUTPUT];
     let answer = gateway::receive(table, message, source, &mut payload);
     answer.reply
-}
-
-// The entry's lines are printed, from a buffer that is lent for them.
-fn show(table: &[u8; TABLE], lines: &mut [u8]) {
-    let answer = listing::listing(table, 0, lines);
-    let length = answer.length;
-    io::write_all(STDOUT_FILENO, &lines[..length]);
 }

@@ -4,6 +4,7 @@
 use mathlib.Core.Path.{_≡_, refl, sym, ap, subst, _∙_}
 use mathlib.Core.Bool.{Bool, true, false, cond}
 use mathlib.Core.List.{List, [], _∷_}
+use mathlib.Core.Logic.{_⊎_, inl, inr}
 use Prim.Native.Nat.{ℕ, _≤_}
 use native.Mathlib.Omega.{arith}
 use borrow.Author.Tests.{le-ltb, ltb-false}
@@ -23,10 +24,11 @@ use Rattle.slots.specs.Table.{slotOf, windowOf, keyIdOf, sourceOf, keyDataOf, e
 use Rattle.slots.proofs.Damage.{undamaged-entry}
 use Rattle.slots.proofs.Settled.{entry-settled}
 use Rattle.lookup.specs.Lookup.{matches, leadsTo, firstFree}
-use Rattle.lookup.specs.declared.Found.the-variants.{At}
+use Rattle.lookup.specs.declared.Found.the-variants.{At, Nothing}
 use Rattle.entries.specs.Fresh.{freshSlot}
-use Rattle.entries.specs.Install.{Left, doneAt, installed}
-use Rattle.entries.proofs.Installs.{Fair, installs-alone}
+use Rattle.entries.specs.Install.{Left, doneAt, placed, installed}
+use Rattle.entries.proofs.Installs.{installs-alone}
+use Rattle.entries.proofs.Outcomes.{Refuses, Enters, install-outcome}
 use Rattle.listing.specs.Listing.{listingOf, listed}
 use Rattle.loading.specs.Load.{stands, loaded}
 use Rattle.loading.proofs.RoundTrip.{settledOf, valuesOf, listing-read}
@@ -231,3 +233,47 @@ module _ {b : Beginning} {i : ℕ} {t : List ℕ} (begins : Begins b i t) (keyid
         → handedBy i [] es (results ran es) ≡ handedBy i [] es (results (after anew (load text)) es)
     restarted-hands es spare =
         hands-on (started .first) es (spared i ran es spare) ∙ sym (hands-on (started .second) es (spared i (after anew (load text)) es spare))
+
+    -- The same of calls that were made.
+    pub restarted-traced : (es : List Call) → SpareAll i es → (rs qs : List Received) → Trace ran es rs → Trace (after anew (load text)) es qs
+        → Alike (b .keys) i (lastOf ran rs) (lastOf (after anew (load text)) qs) × (handedBy i [] es rs ≡ handedBy i [] es qs)
+    restarted-traced es spare rs qs p q = (
+      rw (trace-run ran es rs p, trace-run (after anew (load text)) es qs q) (restarted es spare),
+      ap (handedBy i [] es) (trace-results ran es rs p) ∙ restarted-hands es spare ∙ sym (ap (handedBy i [] es) (trace-results (after anew (load text)) es qs q)),
+    )
+
+-- ---- for operators
+
+-- Run calls, print, restart, run further calls: install k f in a table and calls cs; then, in another table where the same install is answered with the
+-- same slot, a load of the listing, and further calls es that neither remove the entry nor have a listing of it. The entry is as in the gateway that
+-- never stopped, replies and payloads are the same there for its messages, and so is all that es handed out.
+pub restart : (t u : List ℕ) → length t ≡ tableLength → length u ≡ tableLength → (k : KeyData) (f : Frame) → Bytes (k .keyId) → Bytes (k .source)
+    → (i : ℕ) → installed t k f .answer ≡ doneAt i → installed u k f .answer ≡ doneAt i
+    → (cs : List Call) → GoesOn i (after t (install k f)) cs → (es : List Call) → SpareAll i es
+    → let ran = run t (install k f ∷ cs) in let anew = run u (install k f ∷ load (listingOf i (slotOf ran i)) ∷ []) in
+    Alike k i (run ran es) (run anew es) × (handedBy i [] es (results ran es) ≡ handedBy i [] es (results anew es))
+restart t u tl ul k f keyid source i first second cs goes es spare =
+    let begins = install-begins t tl k f keyid i first in
+    let again = install-begins u ul k f keyid i second in
+    (restarted begins keyid source cs goes again [] tt refl es spare, restarted-hands begins keyid source cs goes again [] tt refl es spare)
+
+-- An empty table answers slot 0 to every install that is answered 0 elsewhere.
+abbrev empty : List ℕ
+empty = replicate tableLength 0
+
+nowhere : (flag : ℕ) (keyId source : List ℕ) → leadsTo empty flag keyId source ≡ Nothing
+unfolding leadsTo matches
+nowhere flag keyId source = refl
+
+first-slot : firstFree empty ≡ At 0
+unfolding firstFree
+first-slot = refl
+
+pub empty-installs : (t : List ℕ) (k : KeyData) (f : Frame) (i : ℕ) → installed t k f .answer ≡ doneAt i → installed empty k f .answer ≡ doneAt 0
+empty-installs t k f i done = by (install-outcome t k f)
+  where
+    by : Refuses t (installed t k f) ⊎ ((j : ℕ) × Enters t k f j) → installed empty k f .answer ≡ doneAt 0
+    by (inl r) = absurd (omega (arith, r .some, ap (λ (a : Answer). a .reply) (rw (r .is) at done)))
+    by (inr (j, n)) =
+        ap (λ (l : Left). l .answer)
+        (installs-alone empty k f (n .fair) (nowhere (k .flag) (k .keyId) (k .source)) ∙ ap (placed empty (freshSlot k f)) first-slot)

@@ -1,4 +1,4 @@
-// What the programs share: 01's entry, and the line of an answer.
+// What the programs share: 01's entry, the line of an answer, and the lines of the entry.
 use libc::STDOUT_FILENO;
 use slots::layout::TABLE;
 
@@ -34,4 +34,11 @@ pub fn print_answer(reply: u64) {
     io::write_all(STDOUT_FILENO, b"answer=");
     io::print_decimal(STDOUT_FILENO, reply);
     io::write_all(STDOUT_FILENO, b"\n");
+}
+
+// The entry's lines are printed, from a buffer that is lent for them.
+pub fn show(table: &[u8; TABLE], lines: &mut [u8]) {
+    let answer = listing::listing(table, 0, lines);
+    let length = answer.length;
+    io::write_all(STDOUT_FILENO, &lines[..length]);
 }

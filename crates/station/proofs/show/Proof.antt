@@ -1,12 +1,12 @@
--- `open_one::show` is safe: what a listing answers is no longer than the output that was lent for it. Assumes nothing.
+-- `station::show` is safe: what a listing answers is no longer than the output that was lent for it. Assumes nothing.
 use mathlib.Core.Path.{sym, ap}
 use native.Mathlib.Omega.{arith}
 use borrow.Author.Needs.{needs}
 use lib.Seq.{length-take-le}
 use Rattle.answers.specs.declared.Answer.{Answer}
 use Rattle.listing.proofs.Listed.{listed-within}
-use Rattle.open_one.proofs.show.Statement.{statement}
-use Rattle.open_one.proofs.show.Tie as tie
+use Rattle.station.proofs.show.Statement.{statement}
+use Rattle.station.proofs.show.Tie as tie
 
 within : tie.Need-slice-reshare-prefix-write-all
 within c =
