@@ -56,6 +56,12 @@ module _ (t : List ℕ) (l : Listing) where
       unfolding takenUp
       taken-up h k e = rw (lt-ltb slot slotCount small, here, sound-here ∙ h, k) (record { answers = refl; leaves = e })
 
+  -- the same as one equation
+  pub takes-up : slot < slotCount → stands (l .settled) (slotOf t slot) ≡ true → soundOf (keyDataOf (slotOf t slot)) ≡ true → undamagedEntry (listedEntry l) ≡ true
+      → takenUp t l ≡ record { answer = doneAt slot; table = settled t slot (listedEntry l) }
+  unfolding takenUp
+  takes-up small there sound fit = rw (lt-ltb slot slotCount small, there, sound, fit)
+
 -- ---- by the text
 
 module _ (t text : List ℕ) where

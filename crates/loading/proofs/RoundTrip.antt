@@ -25,6 +25,7 @@ use Rattle.listing.specs.Listing.{namedLines, termLines, movedLines, listingOf,
 use Rattle.loading.specs.Form.{NamedValues, SettledValues, MovedValues, Listing, listingIn}
 use Rattle.loading.specs.Load.{stands, listedEntry, loadable, takenUp, loaded}
 use Rattle.loading.specs.declared.lines.TermLines.{TermLines}
+use Rattle.loading.proofs.Loads.{is-read, takes-up}
 use Rattle.loading.proofs.Outcomes.{Takes, taken-keys, taken-entry}
 use Rattle.loading.proofs.Texts.{namedText, termText, movedText, listingText, Plain, text-reads, listing-text}
 
@@ -77,8 +78,8 @@ module _ (i : ℕ) (s : List ℕ) (small : i < slotCount) (keyid : Bytes (keyIdO
   -- and loads where that entry stands with accepted 0
   pub loads : (t : List ℕ) → stands (settledOf i s) (slotOf t i) ≡ true → soundOf (keyDataOf (slotOf t i)) ≡ true
       → loaded t (listingOf i s) ≡ record { answer = doneAt i; table = settled t i (entryOf s) }
-  unfolding loaded takenUp
-  loads t there sound = rw (listing-read, lt-ltb i slotCount small, there, sound, entry-test (entryOf s) (undamaged-entry s unharmed))
+  loads t there sound =
+      is-read t (listingOf i s) listing-read ∙ takes-up t (valuesOf i s) small there sound (entry-test (entryOf s) (undamaged-entry s unharmed))
 
 -- ---- after a load
 

@@ -61,7 +61,7 @@ returns-3 c =
     let k = m .before .before .before in
     let p = k .before .before .before in
     not-read (p .before .before .before .args .table .now) (text p)
-    (more-behind (text p) (first k .0) (m .before .second .given .0 .1 .0) (second m .0) (second m .1) (c .before .if1 .taken)) (c .refuse3 .ensures)
+    (more-behind (text p) (first k .0) (m .before .second .given .0 .1 .0) (second m .0) (second m .1) (λ e. omega (arith, c .before .if1 .taken))) (c .refuse3 .ensures)
 
 -- all is read
 listing : (c : tie.Else1) → let m = c .before in let k = m .before .before .before in let p = k .before .before .before in let v = k .before .first .given .0 in

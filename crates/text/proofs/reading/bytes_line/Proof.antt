@@ -1,5 +1,6 @@
 -- `text::reading::bytes_line` meets its contract: the line of bytes in hex, and their count. Assumes nothing.
-use mathlib.Core.Path.{sym, subst, _∙_}
+use mathlib.Core.Path.{subst}
+use native.Mathlib.Omega.{arith}
 use borrow.Author.Needs.{needs}
 use lib.ListN.{drop}
 use Rattle.text.specs.Reading.{readHexLine}
@@ -29,14 +30,14 @@ returns-2 c =
     let a = c .before .before .before .before .before .before .before .before .args in
     let x = c .before .before .before .hex .given .0 .0 in
     other-count (a .name .now) (drop (a .at) (a .text .now)) (a .n) (line (c .before .before) .0)
-    (λ e. c .if1 .taken (sym (length-unhexed (x .count) (drop (x .at) (a .text .now))) ∙ e))
+    (λ e. omega (arith, c .if1 .taken, length-unhexed (x .count) (drop (x .at) (a .text .now))))
 
 returns-3 : tie.Need-returns-3
 returns-3 c =
     let a = c .before .before .before .before .before .before .before .before .args in
     let x = c .before .before .before .hex .given .0 .0 in
     let l = line (c .before .before) in
-    (this-count (a .name .now) (drop (a .at) (a .text .now)) (a .n) (l .0) (length-unhexed (x .count) (drop (x .at) (a .text .now)) ∙ c .if1 .left), l .1, l .2)
+    (this-count (a .name .now) (drop (a .at) (a .text .now)) (a .n) (l .0) (omega (arith, c .if1 .left, length-unhexed (x .count) (drop (x .at) (a .text .now)))), l .1, l .2)
 
 pub bytes-line-spec : {M : Type 1} → statement M
 bytes-line-spec =

@@ -28,7 +28,7 @@ is-byte c =
 returns : tie.Need-returns Inv-loop μ-loop
 returns c =
     let a = c .before .before .before .args in
-    sym (law.other-length (a .bytes .now) (unhexed (a .count) (drop (a .at) (a .text .now))) (λ e. c .if1 .taken (sym (e ∙ length-unhexed (a .count) (drop (a .at) (a .text .now))))))
+    sym (law.other-length (a .bytes .now) (unhexed (a .count) (drop (a .at) (a .text .now))) (λ e. omega (arith, c .if1 .taken, length-unhexed (a .count) (drop (a .at) (a .text .now)))))
 
 returns-2 : tie.Need-returns-2 Inv-loop μ-loop
 returns-2 c =
@@ -63,7 +63,7 @@ same-hex-spec =
     Inv-loop
     μ-loop
     returns
-    (λ c. (search needs, c .if1 .left, refl))
+    (λ c. (search needs, omega (arith, c .if1 .left), refl))
     (λ c. search needs)
     (λ c. search needs)
     (λ c κs. search needs)
