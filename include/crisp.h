@@ -301,7 +301,7 @@ struct crisp_answer crisp_load(uint8_t table[CRISP_AT_LEAST CRISP_TABLE], const 
  *         if (r.reply == CRISP_DONE) arrives(file + r.message, r.next - r.message, file + r.source, r.message - r.source);
  *
  * Where a record runs past the end, its reply 18 is the last before CRISP_END. What was received before it stands. A file that is read once more,
- * whatever other files came in between, hands out nothing, unless entries were installed or removed since; an entry that is installed with a start
+ * whatever other files came in between, hands out nothing, unless entries were installed, removed or loaded since; an entry that is installed with a start
  * above the file's numbers, or has loaded a listing from after the file was read, hands out nothing of it either. examples/capture.c among the sources
  * reads a file so.
  *
