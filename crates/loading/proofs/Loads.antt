@@ -13,7 +13,7 @@ use Rattle.format.specs.KeyData.{soundOf}
 use Rattle.window.specs.Entry.{undamagedEntry}
 use Rattle.slots.specs.Table.{slotOf, keyDataOf, settled, slotLength, slotCount}
 use Rattle.slots.proofs.Slots.{slot-lent}
-use Rattle.entries.specs.Install.{Left, IsLeft, doneAt}
+use Rattle.entries.specs.Install.{IsLeft, doneAt}
 use Rattle.loading.specs.Form.{Listing, listingIn}
 use Rattle.loading.specs.Load.{stands, listedEntry, takenUp, loaded}
 

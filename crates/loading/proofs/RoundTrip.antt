@@ -3,28 +3,24 @@
 -- Assumes nothing.
 use mathlib.Core.Path.{_≡_, refl, sym, ap, _∙_}
 use mathlib.Core.Bool.{true}
-use mathlib.Core.List.{List, _++_}
+use mathlib.Core.List.{List}
 use mathlib.Core.Option.{some}
-use Prim.Native.Nat.{ℕ, _+_, _≤_, _<_}
+use Prim.Native.Nat.{ℕ, _<_}
 use native.Mathlib.Omega.{arith}
-use borrow.Author.Tests.{lt-ltb, le-ltb, eq-eqb, ne-eqb}
-use lib.ListN.{length, getD, take, drop}
-use Rattle.octets.specs.Octets.{Bytes, put}
-use Rattle.answers.specs.Answers.{outputRoom}
+use lib.ListN.{length}
+use Rattle.octets.specs.Octets.{Bytes}
 use Rattle.format.specs.KeyData.{soundOf}
-use Rattle.format.proofs.Soundness.{Sound, sound-facts, sound-test}
-use Rattle.window.specs.Entry.{Entry, undamagedEntry}
-use Rattle.window.proofs.Entries.{UndamagedEntry, entry-test, totals-small}
+use Rattle.window.specs.Entry.{Entry}
+use Rattle.window.proofs.Entries.{entry-test, totals-small}
 use Rattle.window.proofs.Undamaged.{undamaged-facts, marks-small}
-use Rattle.slots.specs.Table.{slotOf, occupied, flagOf, csOf, editionOf, keyIdOf, sourceOf, keyDataOf, frameOf, windowOf, entryOf, settled, slotCount, tableLength}
+use Rattle.slots.specs.Table.{slotOf, flagOf, csOf, editionOf, keyIdOf, sourceOf, keyDataOf, frameOf, windowOf, entryOf, settled, slotCount, tableLength}
 use Rattle.slots.specs.Record.{undamaged}
 use Rattle.slots.proofs.Damage.{undamaged-sound, undamaged-entry}
 use Rattle.entries.specs.Install.{doneAt}
 use Rattle.entries.proofs.Bounds.{suite-byte, edition-byte}
 use Rattle.listing.specs.Listing.{namedLines, termLines, movedLines, listingOf, listed}
-use Rattle.loading.specs.Form.{NamedValues, SettledValues, MovedValues, Listing, listingIn}
-use Rattle.loading.specs.Load.{stands, listedEntry, loadable, takenUp, loaded}
-use Rattle.loading.specs.declared.lines.TermLines.{TermLines}
+use Rattle.loading.specs.Form.{SettledValues, MovedValues, Listing, listingIn}
+use Rattle.loading.specs.Load.{stands, listedEntry, loaded}
 use Rattle.loading.proofs.Loads.{is-read, takes-up}
 use Rattle.loading.proofs.Outcomes.{Takes, taken-keys, taken-entry}
 use Rattle.loading.proofs.Texts.{namedText, termText, movedText, listingText, Plain, text-reads, listing-text}

@@ -10,7 +10,6 @@ use Rattle.numbers.proofs.Tests.{and-left, and-right, and-both, refuted}
 use Rattle.octets.specs.Octets.{same}
 use Rattle.octets.proofs.Same.{same-true}
 use Rattle.slots.specs.Table.{csOf, editionOf, sourceOf, frameOf, entryOf}
-use Rattle.window.specs.declared.Frame.{Frame}
 use Rattle.lookup.specs.Lookup.{matches}
 use Rattle.lookup.proofs.Matching.{Alike, same-test, match-facts, by-source, match-test}
 use Rattle.loading.specs.Form.{NamedValues, SettledValues}

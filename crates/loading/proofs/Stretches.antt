@@ -13,7 +13,7 @@ use Rattle.text.specs.Found.{FindsNumber, FindsSpan}
 use Rattle.text.specs.declared.reading.Number.{Number}
 use Rattle.text.specs.declared.reading.Span.{Span}
 use Rattle.listing.specs.Listing.{slotName, flagName, keyIdName, sourceName, suiteName, editionName, sizeName, startName, highestName, marksName, acceptedName, bytesName}
-use Rattle.loading.specs.Form.{NamedValues, SettledValues, MovedValues, Listing, readNamed, readTerms, readSettled, readMoved, listingIn}
+use Rattle.loading.specs.Form.{NamedValues, SettledValues, MovedValues, readNamed, readTerms, readSettled, readMoved, listingIn}
 use Rattle.loading.specs.declared.lines.TermLines.{TermLines}
 use Rattle.loading.proofs.Chains.{four}
 

@@ -3,7 +3,6 @@
 use answers::OUTPUT;
 use format::header::GREATEST;
 use libc::STDIN_FILENO;
-use libc::STDOUT_FILENO;
 use slots::layout::TABLE;
 
 // One byte more than a message may have, so that a longer one is seen to be so.

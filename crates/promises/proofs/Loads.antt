@@ -2,7 +2,7 @@
 -- accepted 0, and makes it that entry byte for byte; and a load that is done begins a history, with the listed window and totals.
 -- Assumes nothing.
 use mathlib.Core.Path.{_≡_, refl, sym, ap, subst, _∙_}
-use mathlib.Core.Bool.{true, false}
+use mathlib.Core.Bool.{true}
 use mathlib.Core.List.{List}
 use mathlib.Core.Logic.{_⊎_, inl, inr}
 use mathlib.Core.Option.{some}
@@ -27,7 +27,7 @@ use Rattle.lookup.specs.Lookup.{leadsTo}
 use Rattle.lookup.specs.declared.Found.the-variants.{At}
 use Rattle.entries.specs.Install.{Left, doneAt}
 use Rattle.entries.proofs.Outcomes.{Refuses}
-use Rattle.listing.specs.Listing.{listingOf, Listed, listed}
+use Rattle.listing.specs.Listing.{listingOf, listed}
 use Rattle.loading.specs.Form.{Listing, listingIn}
 use Rattle.loading.specs.Load.{stands, listedEntry, loaded}
 use Rattle.loading.proofs.Outcomes.{Takes, load-outcome, taken-keys, taken-entry, taken-undamaged}
@@ -35,11 +35,11 @@ use Rattle.loading.proofs.RoundTrip.{settledOf, printed-after}
 use Rattle.loading.proofs.RoundTrip as values
 use Rattle.loading.proofs.Standing.{stand-facts}
 use Rattle.promises.specs.Calls.{Call, load, after, run}
-use Rattle.promises.specs.Counted.{Beginning, standing, Told, toldBy}
+use Rattle.promises.specs.Counted.{Beginning, standing}
 use Rattle.promises.specs.History.{Begins, GoesOn}
 use Rattle.promises.proofs.Held.{Held, held-settled}
 use Rattle.promises.proofs.Runs.{begun, stands-on}
-use Rattle.promises.proofs.Steps.{Stands, unharmed}
+use Rattle.promises.proofs.Steps.{unharmed}
 
 -- a load that is done takes what its text lists
 pub done-takes : (t text : List ℕ) → loaded t text .answer .reply ≡ 0 → (l : Listing) × Takes t text l

@@ -2,16 +2,16 @@
 -- that entry their replies, payloads and totals are those of the gateway that never stopped.
 -- Assumes nothing.
 use mathlib.Core.Path.{_≡_, refl, sym, ap, subst, _∙_}
-use mathlib.Core.Bool.{Bool, true, false, cond}
+use mathlib.Core.Bool.{Bool, true, false}
 use mathlib.Core.List.{List, [], _∷_}
 use mathlib.Core.Logic.{_⊎_, inl, inr}
 use Prim.Native.Nat.{ℕ, _≤_}
 use native.Mathlib.Omega.{arith}
-use borrow.Author.Tests.{le-ltb, ltb-false}
+use borrow.Author.Tests.{ltb-false}
 use lib.Dec.{ltb}
 use lib.ListN.{length, replicate}
 use Rattle.octets.specs.Octets.{Bytes, put}
-use Rattle.answers.specs.Answers.{refused, outputRoom, outputSmall}
+use Rattle.answers.specs.Answers.{refused, outputRoom}
 use Rattle.answers.specs.declared.Answer.{Answer}
 use Rattle.format.specs.Header.{readOf}
 use Rattle.format.specs.KeyData.{KeyData}
@@ -20,7 +20,7 @@ use Rattle.format.specs.declared.header.Parsed.the-variants.{Read}
 use Rattle.message.specs.Sealing.{opened}
 use Rattle.window.specs.declared.Frame.{Frame}
 use Rattle.window.specs.Entry.{Entry, taken}
-use Rattle.slots.specs.Table.{slotOf, windowOf, keyIdOf, sourceOf, keyDataOf, entryOf, settled, replaced, tableLength}
+use Rattle.slots.specs.Table.{slotOf, windowOf, keyIdOf, sourceOf, keyDataOf, entryOf, settled, tableLength}
 use Rattle.slots.proofs.Damage.{undamaged-entry}
 use Rattle.slots.proofs.Settled.{entry-settled}
 use Rattle.lookup.specs.Lookup.{matches, leadsTo, firstFree}
@@ -34,9 +34,9 @@ use Rattle.loading.specs.Load.{stands, loaded}
 use Rattle.loading.proofs.RoundTrip.{settledOf, valuesOf, listing-read}
 use Rattle.loading.proofs.Standing.{stand-test}
 use Rattle.gateway.specs.Receive.{Received, received}
-use Rattle.promises.specs.Calls.{Call, arrival, install, load, OfBytes, called, after, run, results, Trace, lastOf}
+use Rattle.promises.specs.Calls.{Call, arrival, install, load, called, after, run, results, Trace, lastOf}
 use Rattle.promises.specs.Counted.{Beginning, fresh, standing, Message, messages, numbersOf, isOf, Told, apart, below, used, forged, new, told, toldFrom, toldBy, counted}
-use Rattle.promises.specs.History.{Begins, Handed, nothing, one, handed, handedBy, GoesOn, SpareAll, different, countedOf, replyTo, Accounts, Alike}
+use Rattle.promises.specs.History.{Begins, Handed, nothing, one, handed, handedBy, GoesOn, SpareAll, different, countedOf, replyTo, Alike}
 use Rattle.promises.proofs.Beginnings.{install-begins, slot-begins}
 use Rattle.promises.proofs.History.{history}
 use Rattle.promises.proofs.Held.{held-small, held-alike}

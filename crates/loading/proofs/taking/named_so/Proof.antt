@@ -1,5 +1,5 @@
 -- `loading::taking::named_so` meets its contract: each refusal denies one fact of a slot that matches, and the source decides at the end. Assumes nothing.
-use mathlib.Core.Path.{_≡_, sym, ap, _∙_}
+use mathlib.Core.Path.{_≡_, sym, _∙_}
 use mathlib.Core.Bool.{true, true≢false}
 use native.Mathlib.Nat.{add-sub-cancel-left}
 use native.Mathlib.Omega.{arith}

@@ -6,7 +6,7 @@ use lib.ListN.{drop}
 use Rattle.text.specs.Reading.{readHexLine}
 use Rattle.text.specs.Found.{FindsSpan}
 use Rattle.text.specs.declared.reading.Span.{Span}
-use Rattle.text.specs.declared.reading.Span.the-variants as h
+use Rattle.text.specs.declared.reading.Span.the-variants as span
 use Rattle.text.proofs.ByteLines.{none-read, other-count, this-count}
 use Rattle.text.proofs.Unhexed.{length-unhexed}
 use Rattle.text.proofs.reading.bytes_line.Statement.{statement}
@@ -14,7 +14,7 @@ use Rattle.text.proofs.reading.bytes_line.Tie as tie
 
 -- the line of bytes in hex
 line : (c : tie.After-known-told) → let a = c .before .before .before .before .before .before .args in
-    FindsSpan (a .text .now) (readHexLine (a .name .now) (drop (a .at) (a .text .now))) (h.Is (c .before .hex .given .0 .0) (c .before .hex .given .0 .1 .0))
+    FindsSpan (a .text .now) (readHexLine (a .name .now) (drop (a .at) (a .text .now))) (span.Is (c .before .hex .given .0 .0) (c .before .hex .given .0 .1 .0))
 line c =
     let a = c .before .before .before .before .before .before .args in
     subst (λ (r : Span). FindsSpan (a .text .now) (readHexLine (a .name .now) (drop (a .at) (a .text .now))) r) (c .before .hex .given .1) (c .before .before .before .hex-line .ensures)

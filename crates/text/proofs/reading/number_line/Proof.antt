@@ -8,14 +8,14 @@ use Rattle.octets.specs.Octets.{Bytes, bigEndian}
 use Rattle.text.specs.Reading.{got, readBytesLine}
 use Rattle.text.specs.Found.{FindsSpan, unhexed}
 use Rattle.text.specs.declared.reading.Span.{Span}
-use Rattle.text.specs.declared.reading.Span.the-variants as h
+use Rattle.text.specs.declared.reading.Span.the-variants as span
 use Rattle.text.proofs.ByteLines.{counted, no-number, a-number}
 use Rattle.text.proofs.reading.number_line.Statement.{statement}
 use Rattle.text.proofs.reading.number_line.Tie as tie
 
 -- the line of n bytes in hex
 line : (c : tie.After-known-told) → let a = c .before .before .before .before .before .before .args in
-    FindsSpan (a .text .now) (readBytesLine (a .name .now) (a .n) (drop (a .at) (a .text .now))) (h.Is (c .before .hex .given .0 .0) (c .before .hex .given .0 .1 .0))
+    FindsSpan (a .text .now) (readBytesLine (a .name .now) (a .n) (drop (a .at) (a .text .now))) (span.Is (c .before .hex .given .0 .0) (c .before .hex .given .0 .1 .0))
 line c =
     let a = c .before .before .before .before .before .before .args in
     subst (λ (r : Span). FindsSpan (a .text .now) (readBytesLine (a .name .now) (a .n) (drop (a .at) (a .text .now))) r) (c .before .hex .given .1) (c .before .before .before .bytes-line .ensures)
