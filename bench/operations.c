@@ -36,6 +36,9 @@ static const struct kind {
 } a_1 = {1, 2, 0x0b76e6736001}, a_2 = {2, 2, 0x0b76e66ea001}, old_a_1 = {1, 1, 0x0b76e6736001}, long_a_1 = {241, 2, 0x0b76e6736001},
   long_a_2 = {242, 2, 0x0b76e66ea001};
 
+/* of a slot: its bytes, and the place and bytes of what arrivals and loads move, from highest to the totals */
+enum { SLOT = CRISP_TABLE / CRISP_SLOTS, MOVED = 214, MOVED_BYTES = 56 };
+
 static uint8_t table[CRISP_TABLE], saved[CRISP_TABLE], data[2048], out[2048], message[2048];
 static volatile uint64_t sink;
 
@@ -90,9 +93,9 @@ static int arrives(const struct kind *k, size_t length, int slot, uint64_t start
     if (a.reply) return 1;
     if (damage >= 0) message[damage] ^= 1;
     memcpy(saved, table, sizeof table);
-    uint8_t *window = table + 288 * slot + 214, *before = saved + 288 * slot + 214;
+    uint8_t *moved = table + SLOT * slot + MOVED, *before = saved + SLOT * slot + MOVED;
     while (n--) {
-        memcpy(window, before, 56);
+        memcpy(moved, before, MOVED_BYTES);
         if (crisp_receive(table, message, a.length, source, 12, out, sizeof out).reply != reply) return 1;
     }
     return 0;
@@ -185,7 +188,7 @@ static int loads(size_t cut, uint64_t n, uint64_t reply)
     size_t length = crisp_listing(table, 0, out, sizeof out).length;
     if (length < cut) return 1;
     while (n--) {
-        memcpy(table + 214, saved + 214, 56);
+        memcpy(table + MOVED, saved + MOVED, MOVED_BYTES);
         if (crisp_load(table, out, length - cut).reply != reply) return 1;
     }
     return 0;

@@ -47,13 +47,14 @@ static int sends(struct crisp_sender *sender, const char *reading, struct packet
     return (int)a.reply;
 }
 
-static struct packet listing;           /* the last one */
+static uint8_t listing[CRISP_OUT];      /* the last one */
+static size_t listing_length;
 
 static int lists(const uint8_t *gateway, size_t slot)
 {
-    struct crisp_answer a = crisp_listing(gateway, slot, listing.bytes, sizeof listing.bytes);
-    printf("%.*s", (int)a.length, (const char *)listing.bytes);
-    listing.length = a.length;
+    struct crisp_answer a = crisp_listing(gateway, slot, listing, sizeof listing);
+    printf("%.*s", (int)a.length, (const char *)listing);
+    listing_length = a.length;
     return (int)a.reply;
 }
 
@@ -68,7 +69,7 @@ static int restarts(uint8_t *gateway)
 {
     memset(gateway, 0, CRISP_TABLE);
     if (installs(gateway, 0).reply != CRISP_DONE) return 1;
-    struct crisp_answer a = crisp_load(gateway, listing.bytes, listing.length);
+    struct crisp_answer a = crisp_load(gateway, listing, listing_length);
     printf("load: reply %llu, slot %zu\n", (unsigned long long)a.reply, a.slot);
     return a.reply != CRISP_DONE;
 }

@@ -42,8 +42,8 @@ extern "C" {
  * it has another start, which that version does not look at.
  *
  * Suites 241 and 242 came with version 3.1 and moved nothing. Back in version 3.0 or earlier they are unsound: an entry or a record with one of them is
- * refused there with 7, and a message of theirs with 4. crisp_load came with version 3.2 and moved nothing either: a table that it wrote in goes back to
- * version 3.1. */
+ * refused there with 7, and a message of theirs with 4. crisp_load came with version 3.2 and moved nothing either: a table that it has written to can be
+ * used by version 3.1. */
 #define CRISP_LAYOUT 2
 
 /* Bytes of a table, and its slots. A table of zeros is an empty one. It may be kept and saved as it is (see "Keys" below). Any bytes are safe to
@@ -91,7 +91,7 @@ extern "C" {
 #define CRISP_CAPTURE 65536
 #define CRISP_CAPTURE_HEADER 24
 
-/* A pointer to no bytes, which is not null: for a source or a payload of length 0. */
+/* A pointer to no bytes, which is not null: for a source, a payload or a text of length 0. */
 #define CRISP_NOTHING ((const uint8_t *)"")
 
 /* Bytes of stack that a call takes at most, below its caller's frame: measured, not proved (docs/COSTS.md). In a program whose loader binds memcpy
@@ -280,9 +280,10 @@ struct crisp_answer crisp_listing(const uint8_t table[CRISP_AT_LEAST CRISP_TABLE
  *
  * A listing holds no key: first install the entry with its key data, size and start, into the slot that is listed. Installs take the lowest free slot,
  * so install in the slots' order, and where one in between was free, put an entry there that is removed afterwards. Whether the key is the old one
- * cannot be seen: with another one each message is refused afterwards with 11. Only an entry that has accepted nothing takes a listing; where it took a
- * wrong one, remove it and install it again. A listing by version 1 or 2 has no line `edition=`, and one by version 1 no `start=`, so it is refused with
- * 21: it loads once `edition=2` was put behind `suite=`, and `start=0` behind `size=`.
+ * cannot be seen: with another one each message that is not refused with 9 or 10 is then refused with 11. Only an entry that has accepted nothing takes a
+ * listing; where it took a wrong one, remove it and install it again. The entry's highest number, marks and byte total of before are not looked at, so a
+ * record with accepted 0 that is damaged in these alone is mended. A listing by version 1 or 2 has no line `edition=`, and one by version 1 no `start=`,
+ * so it is refused with 21: it loads once `edition=2` was put behind `suite=`, and `start=0` behind `size=`.
  *
  * An old text is as bad as an old table: each message that was accepted after it was made can pass once more. So list after the last arrival, save the
  * text before the payload is used, and in the same file what is to become of the payload. Nothing in the text shows that it was changed. Whoever can
@@ -301,9 +302,9 @@ struct crisp_answer crisp_load(uint8_t table[CRISP_AT_LEAST CRISP_TABLE], const 
  *         if (r.reply == CRISP_DONE) arrives(file + r.message, r.next - r.message, file + r.source, r.message - r.source);
  *
  * Where a record runs past the end, its reply 18 is the last before CRISP_END. What was received before it stands. A file that is read once more,
- * whatever other files came in between, hands out nothing, unless entries were installed, removed or loaded since; an entry that is installed with a start
- * above the file's numbers, or has loaded a listing from after the file was read, hands out nothing of it either. examples/capture.c among the sources
- * reads a file so.
+ * whatever other files came in between, hands out nothing, unless entries were installed or removed, or a listing was loaded, since; an entry that is
+ * installed with a start above the file's numbers, or has loaded a listing from after the file was read, hands out nothing of it either.
+ * examples/capture.c among the sources reads a file so.
  *
  * The first answers the order of the file's numbers, 1 (highest byte first) or 2 (lowest), or 17 (header bad, or size not 24 to 65,536 bytes). Hand
  * the order to the second as it came. */
@@ -318,10 +319,11 @@ struct crisp_record crisp_capture_record(const uint8_t *file, size_t file_len, u
 /* Keys. Tables and records hold keys in clear, and so do their saved copies: let no other account read the files (mode 0600), nor their backups.
  * crisp_receive and crisp_protect leave the base key and parts of the derived keys in the dead stack below their caller, and bytes of a key or of
  * the payload in registers. A careful caller clears them, by the function below or by a stack of its own for the calls that it clears afterwards,
- * and writes no core files.
+ * and writes no core files. crisp_load looks at no byte of a key and leaves none.
  *
  * crisp_forget clears CRISP_STACK bytes below its caller's frame, and the registers that a call need not keep. Call it from the function that
- * made the call, right after it. It is not proved; the tests find keys after crisp_receive and crisp_protect, and none after crisp_forget. */
+ * made the call, right after it. It is not proved; the tests find keys after crisp_receive and crisp_protect, and none after crisp_load, nor after
+ * crisp_forget. */
 #if defined(__GNUC__) && defined(__x86_64__)
 __attribute__((noinline, unused)) static void crisp_forget(void)
 {

@@ -1,7 +1,7 @@
 /* compare.c: runs the library beside the second implementation (reference.c) on seeded random sequences of calls and on sweeps, and compares after
  * every call the four numbers of the answer, all bytes of the table, of the sender's record and of the output. At times all entries are listed, the table
- * is lost, and their listings are loaded: the table must be what it was, and the same calls must then do the same on both. At the first difference it
- * prints the sequence that showed it and stops.
+ * is lost, and their listings are loaded: the table must be what it was, and the same calls, loads among them, must then do the same on both. At the first
+ * difference it prints the sequence that showed it and stops.
  *
  *   compare [SEQUENCES [SEED]]        100000 sequences and seed 1 where nothing is said */
 #include "crisp.h"
@@ -17,7 +17,7 @@ enum { ENTRIES = 24, KEPT = 64, PRINTED = 16, ROOM = 2304 };
 
 /* of a slot: its bytes, and where its parts stand in it */
 enum { SLOT = CRISP_TABLE / CRISP_SLOTS, FLAG = 1, SUITE = 2, EDITION = 3, KEYID_LEN = 4, KEYID = 5, SOURCE_LEN = 133, SOURCE = 134, KEY = 166,
-       SIZE = 198, START = 206 };
+       SIZE = 198, START = 206, ACCEPTED = 254 };
 
 /* a suite with these bits changed is the one that has the other length of check value: 1 and 241, 2 and 242 */
 enum { OTHER_LENGTH = 0xf0 };
@@ -90,10 +90,10 @@ static const char *const record_names[RECORD] = {"mark below the window", "below
 static uint64_t by_record[RECORD];
 
 /* what loads did: the entry's own listing, and an older one, loaded; any that was printed before, loaded and refused; another slot's with this slot's number;
- * texts that no listing was, loaded; and restarts, with the calls that were compared after them */
-enum load { OWN, OLDER, ANY, ANY_REFUSED, OTHERS, MADE, RESTARTS, LOADED_THERE, AFTERWARDS, LOADS };
+ * texts that no listing was, loaded; and restarts, with the calls that were compared after them, of which some were loads, done and refused */
+enum load { OWN, OLDER, ANY, ANY_REFUSED, OTHERS, MADE, RESTARTS, LOADED_THERE, AFTERWARDS, LOADED_AFTERWARDS, REFUSED_AFTERWARDS, LOADS };
 static const char *const load_names[LOADS] = {"own", "older", "any", "any refused", "another slot's", "made", "restarts", "loads in them",
-                                              "calls after them"};
+                                              "calls after them", "loaded after them", "refused after them"};
 static uint64_t by_load[LOADS];
 
 static void differs(const char *what)
@@ -553,6 +553,13 @@ static void make_history(struct history *h)
     h->bytes = below(2) ? CRISP_PAYLOAD * h->accepted : below(CRISP_PAYLOAD * h->accepted + 1);
 }
 
+/* another one in a text */
+static void remake_history(struct lines *l)
+{
+    struct history h;
+    history_in(l, &h), make_history(&h), put_history(l, &h);
+}
+
 /* that number, or any above it */
 static uint64_t at_least(uint64_t x) { return below(2) ? x : x + below(UINT64_MAX - x); }
 
@@ -631,7 +638,7 @@ static void change_entry(struct lines *l, size_t slot, enum entry way)
     static const int lines[] = {AT_SLOT, AT_FLAG, AT_KEYID, AT_SOURCE, AT_SUITE, AT_EDITION, AT_SIZE, AT_START};
     size_t at = SLOT * slot, longer;
     switch (way) {
-    case NOT_FRESH: put(at + 254 + below(8), (uint8_t)(1 + below(255))); break;
+    case NOT_FRESH: put(at + ACCEPTED + below(8), (uint8_t)(1 + below(255))); break;
     case FREED: put(at, 0); break;
     case LONG_KEYID:
         longer = 129 + below(127);
@@ -760,32 +767,41 @@ static const struct text *any_printed(void)
     return &printed[(prints - 1 - (behind > 1 ? 1 + (int)below((uint64_t)behind - 1) : 0)) % PRINTED];
 }
 
-static void random_load(void)
+/* a slot, mostly an occupied one */
+static size_t some_slot(void)
 {
-    static struct text t;
-    static struct lines l;
     size_t slot = below(CRISP_SLOTS);
     for (int tries = 0; tries < 8 && !table[SLOT * slot]; tries++) slot = below(below(2) ? CRISP_SLOTS : 4);
+    return slot;
+}
+
+/* the entry's own listing: it loads where the entry was installed again; where it was left alone, if nothing was accepted */
+static void load_own(const struct text *own, size_t slot, int left_alone, int older)
+{
+    if (call_load(own->bytes, own->length)) {
+        if (!left_alone) differs("a listing that does not load");
+        by_entry[NOT_FRESH]++;
+        return;
+    }
+    by_load[older ? OLDER : OWN]++;
+    call_listing(slot, 2048);
+    if (answered.length != own->length || memcmp(out, own->bytes, own->length)) differs("the listing after a load");
+}
+
+static void random_load(void)
+{
+    static struct text own, other, t;
+    static struct lines l;
+    size_t slot = some_slot();
     if (!below(16)) load_anything();
     call_listing(slot, 2048);
     if (answered.reply) return;
-    static struct text own, other;
     own = printed[(prints - 1) % PRINTED], other = *any_printed();
-    int older = arrives_at(slot), stands = !below(8);
-    if (!stands && !stands_again(slot)) return;
+    int older = arrives_at(slot), left_alone = !below(8);
+    if (!left_alone && !stands_again(slot)) return;
     split(&own, &l);
-    struct history h;
     switch (below(8)) {
-    case 0: case 1:
-        if (call_load(own.bytes, own.length)) {
-            if (!stands) differs("a listing that does not load");
-            by_entry[NOT_FRESH]++;
-            break;
-        }
-        by_load[older ? OLDER : OWN]++;
-        call_listing(slot, 2048);
-        if (answered.length != own.length || memcmp(out, own.bytes, own.length)) differs("the listing after a load");
-        break;
+    case 0: case 1: load_own(&own, slot, left_alone, older); break;
     case 2: by_load[call_load(other.bytes, other.length) ? ANY_REFUSED : ANY]++; break;
     case 3:
         split(&other, &l);
@@ -793,12 +809,12 @@ static void random_load(void)
         set_number(&l, AT_SLOT, slot), join(&l, &t), call_load(t.bytes, t.length);
         break;
     case 4:
-        history_in(&l, &h), make_history(&h), put_history(&l, &h), join(&l, &t);
+        remake_history(&l), join(&l, &t);
         by_load[MADE] += !call_load(t.bytes, t.length);
         break;
     default:
         for (int n = 0; n < 4; n++) {
-            if (below(2)) history_in(&l, &h), make_history(&h), put_history(&l, &h);
+            if (below(2)) remake_history(&l);
             load_changed(&l, slot);
         }
     }
@@ -825,24 +841,51 @@ static void random_table_call(void)
     }
 }
 
-/* the same calls on the table that was never lost */
+/* the slot's listing, or any that was printed before, as it is, with another history, damaged or not in form; nothing at all of a free slot */
+static void choose_text(size_t slot, struct text *t)
+{
+    static struct lines l;
+    struct history h;
+    t->length = 0;
+    call_listing(slot, 2048);
+    if (answered.reply) return;
+    split(below(4) ? &printed[(prints - 1) % PRINTED] : any_printed(), &l);
+    if (below(2)) remake_history(&l);
+    if (!below(4)) history_in(&l, &h), damage_history(&h, (enum record)below(KEY_DATA)), put_history(&l, &h);
+    join(&l, t);
+    if (!below(4)) spoil_text(&l, t, (enum form)below(FORMS));
+}
+
+/* a text, mostly at the entry installed again */
+static void load_in(size_t slot, const struct text *t)
+{
+    if (below(4)) stands_again(slot);
+    call_load(t->bytes, t->length);
+}
+
+/* the same calls on the table that was never lost; the text of a load is chosen before, from what both hold */
 static void go_on_with(uint8_t other[CRISP_TABLE])
 {
     static uint8_t first_out[ROOM];
+    static struct text t;
     for (int n = 1 + (int)below(6); n > 0; n--) {
         if (!keeps || below(2)) random_protect((int)below(ENTRIES), 1);
         if (!keeps) continue;
+        int is_load = !below(3);
+        size_t slot = some_slot();
+        if (is_load) choose_text(slot, &t);
         uint64_t state = random_state;
         exchange_tables(other);
-        random_table_call();
+        is_load ? load_in(slot, &t) : random_table_call();
         struct crisp_answer first = answered;
         memcpy(first_out, out, ROOM);
         exchange_tables(other);
         random_state = state;
-        random_table_call();
+        is_load ? load_in(slot, &t) : random_table_call();
         if (memcmp(&first, &answered, sizeof first) || memcmp(first_out, out, ROOM)) differs("an answer or output after a restart");
         if (memcmp(table, other, CRISP_TABLE)) differs("a table after a restart");
         by_load[AFTERWARDS]++;
+        if (is_load) by_load[answered.reply ? REFUSED_AFTERWARDS : LOADED_AFTERWARDS]++;
     }
 }
 
@@ -1173,7 +1216,7 @@ static void sweep_order(size_t slot)
                 struct lines l = listed_lines;
                 back();
                 if (damaged) set_number(&l, AT_ACCEPTED, 0);
-                if (other == AT_START + 1) put(SLOT * slot + 261, 1);
+                if (other == AT_START + 1) put_number(SLOT * slot + ACCEPTED, 1);
                 else if (other == AT_SLOT) set_number(&l, AT_SLOT, 16 + slot);
                 else if (other >= 0 && in_hex(other)) strcat(l.of[other], "00");
                 else if (other >= 0) set_number(&l, other, number(&l, other) + 1);

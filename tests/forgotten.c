@@ -1,5 +1,6 @@
 /* forgotten.c: after each call that has to do with keys, the base key, the derived keys and the payload are looked for in the stack below it and in the
- * registers, in groups of four bytes, as they stand and turned round. Without crisp_forget some are there; after it none may be. */
+ * registers, in groups of four bytes, as they stand and turned round. Without crisp_forget some are there after crisp_protect and crisp_receive; after it
+ * none may be. crisp_load looks at no key, and may leave nothing of one without crisp_forget either. */
 #include "crisp.h"
 #include "on_stack.h"
 #include "random.h"
@@ -92,8 +93,9 @@ static int look_at_calls(uint8_t suite)
         listed = crisp_listing(table, 0, listing, sizeof listing).length;
         memset(table, 0, sizeof table);
         install();
+        crisp_forget();                 /* what is found next is the load's own */
         n = look("load", load);
-        bad |= forgets ? n != 0 : n < 0;
+        bad |= n != 0;
     }
     return bad;
 }
