@@ -52,3 +52,17 @@ module _ (k : KeyData) where
   -- where one fact fails
   pub unsound : (Sound k → ⊥) → false ≡ soundOf k
   unsound bad = refuted (soundOf k) (λ e. bad (sound-facts e))
+
+-- soundness asks no more of a base key than its length
+pub sound-alike : {k other : KeyData} → Sound k → other .flag ≡ k .flag → other .keyId ≡ k .keyId → other .source ≡ k .source → other .suite ≡ k .suite
+    → other .edition ≡ k .edition → length (other .key) ≡ 32 → Sound other
+sound-alike s a b c d e f = record {
+  flag-small = rw a (s .flag-small);
+  keyid-length = rw b (s .keyid-length);
+  source-least = rw c (s .source-least);
+  source-most = rw c (s .source-most);
+  key-length = f;
+  suite-known = rw d (s .suite-known);
+  edition-goes = rw (d, e) (s .edition-goes);
+  named = rw (a, b) (s .named);
+}

@@ -19,11 +19,7 @@ use Rattle.slots.specs.Record.{undamaged}
 use Rattle.listing.specs.Listing.{namedLines, termLines, movedLines, listingOf, Listed, IsListed, listed}
 use Rattle.text.proofs.Decimals.{length-decimal}
 use Rattle.text.proofs.Hex.{length-hex}
-use Rattle.slots.proofs.Slots.{slot-lent, slot-byte}
-
--- the bytes of a slot as they are lent
-abbrev lent : List ℕ → ℕ → List ℕ
-lent t i = take (slotLength * i + slotLength - slotLength * i) (drop (slotLength * i) t)
+use Rattle.slots.proofs.Slots.{lent, slot-lent, slot-byte}
 
 module _ (t : List ℕ) (i : ℕ) (out : List ℕ) where
   pub little-room : {r : Answer} → length out < outputRoom → r ≡ refused outputSmall → IsListed (listed t i out) r out
@@ -61,6 +57,14 @@ module _ (t : List ℕ) (i : ℕ) (out : List ℕ) where
               answers = ap (λ (m : ℕ). record { reply = 0; length = m; slot = i; seqnum = 0 }) (rw (slot-lent t i) at n);
               writes = rw (slot-lent t i) at w;
             })
+
+-- an occupied, undamaged slot is listed
+pub lists : (t : List ℕ) (i : ℕ) (out : List ℕ) → outputRoom ≤ length out → i < slotCount → (getD (slotOf t i) occupiedAt 0 ≡ 0 → ⊥) → undamaged (slotOf t i) ≡ true
+    → listed t i out
+    ≡ record { answer = record { reply = 0; length = length (listingOf i (slotOf t i)); slot = i; seqnum = 0 }; out = put out 0 (listingOf i (slotOf t i)) }
+unfolding listed
+lists t i out room small held unharmed =
+    rw (le-ltb (length out) outputRoom room, lt-ltb i slotCount small, ne-eqb (getD (slotOf t i) occupiedAt 0) 0 held, unharmed)
 
 -- ---- a listing fits
 

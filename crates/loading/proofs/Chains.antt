@@ -1,8 +1,8 @@
--- Four readings in a row, each in the text that the one before it left: the first that fails decides; where all succeed, so do their values; and what
--- all of them came to tells what each came to.
+-- Four readings in a row, each in the text that the one before it left: the first that fails decides, and where all succeed, so do their values. What
+-- four lines print is read so, and what was read is what they print.
 -- Assumes nothing.
-use mathlib.Core.Path.{_≡_, subst}
-use mathlib.Core.List.{List}
+use mathlib.Core.Path.{_≡_, sym, ap, _∙_}
+use mathlib.Core.List.{List, _++_, append-assoc}
 use Prim.Native.Nat.{ℕ}
 use Rattle.text.specs.Reading.{Read, failed, got, andThen}
 use Rattle.text.proofs.ReadPrinted.{got-value, got-rest, through}
@@ -30,37 +30,60 @@ module _ {A B C D E : Type 0} (a : List ℕ → Read A) (b : List ℕ → Read B
           pub all-four : {z : D} {l₄ : List ℕ} → d l₃ ≡ got z l₄ → four text ≡ got (f w x y z) l₄
           all-four e₄ = rw (e₁, e₂, e₃, e₄)
 
-    -- what each of the four came to
-    pub record Each (value : E) (rest : List ℕ) : Type 0 where
-      pub w : A
-      pub x : B
-      pub y : C
-      pub z : D
-      pub l₁ : List ℕ
-      pub l₂ : List ℕ
-      pub l₃ : List ℕ
-      pub first : a text ≡ got w l₁
-      pub second : b l₁ ≡ got x l₂
-      pub third : c l₂ ≡ got y l₃
-      pub fourth : d l₃ ≡ got z rest
-      pub made : f w x y z ≡ value
+-- ---- what is printed is read, and what was read was printed
 
-    pub each : (value : E) (rest : List ℕ) → four text ≡ got value rest → Each value rest
-    each value rest e =
-        let p = through (a text) _ value rest e in
-        let q = through (b (p .left)) _ value rest (p .next) in
-        let r = through (c (q .left)) _ value rest (q .next) in
-        let s = through (d (r .left)) _ value rest (r .next) in record {
-          w = p .value;
-          x = q .value;
-          y = r .value;
-          z = s .value;
-          l₁ = p .left;
-          l₂ = q .left;
-          l₃ = r .left;
-          first = p .is;
-          second = q .is;
-          third = r .is;
-          fourth = subst (λ (l : List ℕ). d (r .left) ≡ got (s .value) l) (got-rest (s .next)) (s .is);
-          made = got-value (s .next);
-        }
+-- how a line is read, and how it is printed
+pub record Line (A : Type 0) : Type 0 where
+  pub read : List ℕ → Read A
+  pub print : A → List ℕ
+
+-- printed, it is read as the same, whatever follows; and what is read was printed
+abbrev pub Reads : {A : Type 0} → Line A → A → Type 0
+Reads line x = (rest : List ℕ) → line .read (line .print x ++ rest) ≡ got x rest
+
+abbrev pub Prints : {A : Type 0} → Line A → Type 0
+Prints {A} line = (text : List ℕ) (x : A) (rest : List ℕ) → line .read text ≡ got x rest → text ≡ line .print x ++ rest
+
+module _ {A B C D E : Type 0} (a : Line A) (b : Line B) (c : Line C) (d : Line D) (f : A → B → C → D → E) where
+  abbrev reading : List ℕ → Read E
+  reading = four (a .read) (b .read) (c .read) (d .read) f
+
+  behind : (w : A) (x : B) (y : C) (z : D) (rest : List ℕ)
+      → a .print w ++ b .print x ++ c .print y ++ d .print z ++ rest ≡ a .print w ++ (b .print x ++ (c .print y ++ (d .print z ++ rest)))
+  behind w x y z rest = simp append-assoc
+
+  pub four-reads : (w : A) (x : B) (y : C) (z : D) → Reads a w → Reads b x → Reads c y → Reads d z
+      → (rest : List ℕ) → reading (a .print w ++ b .print x ++ c .print y ++ d .print z ++ rest) ≡ got (f w x y z) rest
+  four-reads w x y z i j k l rest =
+      ap reading (behind w x y z rest)
+      ∙ all-four (a .read) (b .read) (c .read) (d .read) f (a .print w ++ (b .print x ++ (c .print y ++ (d .print z ++ rest)))) (i (b .print x ++ (c .print y ++ (d .print z ++ rest))))
+      (j (c .print y ++ (d .print z ++ rest))) (k (d .print z ++ rest)) (l rest)
+
+  -- the four values, and the text that they were printed as
+  pub record Was (text : List ℕ) (value : E) (rest : List ℕ) : Type 0 where
+    pub w : A
+    pub x : B
+    pub y : C
+    pub z : D
+    pub made : f w x y z ≡ value
+    pub is : text ≡ a .print w ++ b .print x ++ c .print y ++ d .print z ++ rest
+
+  pub four-was : Prints a → Prints b → Prints c → Prints d → (text : List ℕ) (value : E) (rest : List ℕ) → reading text ≡ got value rest → Was text value rest
+  four-was i j k l text value rest e =
+      let p = through (a .read text) _ value rest e in
+      let q = through (b .read (p .left)) _ value rest (p .next) in
+      let r = through (c .read (q .left)) _ value rest (q .next) in
+      let s = through (d .read (r .left)) _ value rest (r .next) in
+      let last : r .left ≡ d .print (s .value) ++ rest = l (r .left) (s .value) (s .left) (s .is) ∙ ap (λ (m : List ℕ). d .print (s .value) ++ m) (got-rest (s .next)) in
+      record {
+        w = p .value;
+        x = q .value;
+        y = r .value;
+        z = s .value;
+        made = got-value (s .next);
+        is =
+            i text (p .value) (p .left) (p .is)
+            ∙ ap (λ (m : List ℕ). a .print (p .value) ++ m) (j (p .left) (q .value) (q .left) (q .is)
+            ∙ ap (λ (m : List ℕ). b .print (q .value) ++ m) (k (q .left) (r .value) (r .left) (r .is) ∙ ap (λ (m : List ℕ). c .print (r .value) ++ m) last))
+            ∙ sym (behind (p .value) (q .value) (r .value) (s .value) rest);
+      }

@@ -12,14 +12,10 @@ use Rattle.answers.specs.declared.Answer.{Answer}
 use Rattle.format.specs.KeyData.{soundOf}
 use Rattle.window.specs.Entry.{undamagedEntry}
 use Rattle.slots.specs.Table.{slotOf, keyDataOf, settled, slotLength, slotCount}
-use Rattle.slots.proofs.Slots.{slot-lent}
+use Rattle.slots.proofs.Slots.{lent, slot-lent}
 use Rattle.entries.specs.Install.{IsLeft, doneAt}
 use Rattle.loading.specs.Form.{Listing, listingIn}
 use Rattle.loading.specs.Load.{stands, listedEntry, takenUp, loaded}
-
--- the bytes of a slot as they are lent
-abbrev pub lent : List ℕ → ℕ → List ℕ
-lent t i = take (slotLength * i + slotLength - slotLength * i) (drop (slotLength * i) t)
 
 -- ---- in the table
 

@@ -1,5 +1,5 @@
 -- What a load comes to: a refusal, which leaves the table as it was, or done at the listed slot. Done, the slot has the same key data with the listed
--- window and totals, undamaged, and the other slots are as they were.
+-- window and totals, undamaged.
 -- Assumes nothing.
 use mathlib.Core.Path.{_≡_, refl, sym, ap, _∙_}
 use mathlib.Core.Bool.{Bool, true, false, _&&_}
@@ -12,20 +12,21 @@ use lib.Dec.{ltb, lit≤}
 use lib.ListN.{length}
 use Rattle.numbers.proofs.Tests.{and-left, and-right}
 use Rattle.answers.specs.Answers.{badText, notStanding, wouldBeDamaged}
-use Rattle.format.specs.KeyData.{soundOf}
+use Rattle.format.specs.KeyData.{KeyData, soundOf}
 use Rattle.window.specs.Entry.{Entry, undamagedEntry}
 use Rattle.window.proofs.Entries.{UndamagedEntry, entry-facts, entry-test}
 use Rattle.slots.specs.Table.{slotOf, keyDataOf, entryOf, settled, slotCount, tableLength}
 use Rattle.slots.specs.Record.{undamaged}
 use Rattle.slots.proofs.Damage.{undamaged-by-entry}
-use Rattle.slots.proofs.Replacing.{length-replaced, slot-other}
-use Rattle.slots.proofs.Settled.{SameKeys, same-keydata, settled-keys, settledSlot, length-slot, as-replaced, slot-settled, entry-settled}
+use Rattle.slots.proofs.Replacing.{length-replaced}
+use Rattle.slots.proofs.Settled.{SameKeys, same-keydata, settled-keys, settledSlot, length-slot, as-replaced, slot-settled, entry-written, entry-settled}
 use Rattle.slots.proofs.Slots.{slot-length}
 use Rattle.entries.specs.Install.{doneAt}
 use Rattle.entries.proofs.Outcomes.{Refuses}
 use Rattle.loading.specs.Form.{Listing, listingIn}
 use Rattle.loading.specs.Load.{stands, listedEntry, loadable, takenUp, takenUpFrom, loaded}
 use Rattle.loading.proofs.Standing.{Stands, stand-facts, same-frame}
+use Rattle.loading.proofs.Texts.{listing-fits}
 
 -- the entry takes what is listed
 pub record Takes (t text : List ℕ) (l : Listing) : Type 0 where
@@ -97,10 +98,20 @@ module _ {t text : List ℕ} (long : length t ≡ tableLength) {l : Listing} (ta
       ap length (as-replaced t i e long (takes .small))
       ∙ length-replaced t i (settledSlot t i e long (takes .small)) long (takes .small) (length-slot t i e long (takes .small))
 
-  pub taken-other : (j : ℕ) → j < slotCount → (j ≡ i → ⊥) → slotOf next j ≡ slotOf t j
-  taken-other j within other =
-      ap (λ (x : List ℕ). slotOf x j) (as-replaced t i e long (takes .small))
-      ∙ slot-other t i (settledSlot t i e long (takes .small)) long (takes .small) (length-slot t i e long (takes .small)) j within other
+-- ---- the loaded record
+
+-- that it would be undamaged is that the slot, with the listed window and totals written into it, is
+pub loadable-is : (t text : List ℕ) → length t ≡ tableLength → (l : Listing) → listingIn text ≡ some l → let i = l .settled .named .slot in i < slotCount
+    → stands (l .settled) (slotOf t i) ≡ true → loadable (slotOf t i) (listedEntry l) ≡ undamaged (slotOf (settled t i (listedEntry l)) i)
+unfolding undamaged
+loadable-is t text long l read small there =
+    let i = l .settled .named .slot in
+    let e = listedEntry l in
+    let s = stand-facts (l .settled) (slotOf t i) there in
+    let keys = settled-keys (slotOf t i) e (slot-length t i long small) (s .named .alike .keyid-short) (s .named .alike .source-short) in
+    let same-data : keyDataOf (slotOf (settled t i e) i) ≡ keyDataOf (slotOf t i) = ap keyDataOf (slot-settled t i e long small) ∙ same-keydata keys in
+    let entry = entry-written t i e long small (listing-fits text l read) (same-frame (l .settled .terms) (slotOf t i) (s .terms)) in
+    sym (ap (λ (k : KeyData). soundOf k && undamagedEntry (entryOf (slotOf (settled t i e) i))) same-data ∙ ap (λ (x : Entry). soundOf (keyDataOf (slotOf t i)) && undamagedEntry x) entry)
 
 pub load-length : (t text : List ℕ) → length t ≡ tableLength → length (loaded t text .table) ≡ tableLength
 load-length t text long = by (load-outcome t text)

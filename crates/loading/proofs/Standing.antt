@@ -13,7 +13,7 @@ use Rattle.slots.specs.Table.{csOf, editionOf, sourceOf, frameOf, entryOf}
 use Rattle.lookup.specs.Lookup.{matches}
 use Rattle.lookup.proofs.Matching.{Alike, same-test, match-facts, by-source, match-test}
 use Rattle.loading.specs.Form.{NamedValues, SettledValues}
-use Rattle.loading.specs.Load.{namedSo, settledSo, stands}
+use Rattle.loading.specs.Load.{namedSo, termsSo, stands}
 use Rattle.loading.specs.declared.lines.TermLines.{TermLines}
 
 -- flag, KeyId and source
@@ -58,20 +58,20 @@ pub record TermsAlike (v : TermLines) (s : List ℕ) : Type 0 where
   pub start-same : frameOf s .start ≡ v .frame .start
 
 module _ (v : TermLines) (s : List ℕ) where
-  pub terms-alike : settledSo v s ≡ true → TermsAlike v s
-  unfolding settledSo
+  pub terms-alike : termsSo v s ≡ true → TermsAlike v s
+  unfolding termsSo
   terms-alike h = search (and-left, and-right, eqb-true) depth 16
 
   pub by-start : csOf s ≡ v .suite → editionOf s ≡ v .edition → frameOf s .size ≡ v .frame .size
-      → eqb (frameOf s .start) (v .frame .start) ≡ settledSo v s
-  unfolding settledSo
+      → eqb (frameOf s .start) (v .frame .start) ≡ termsSo v s
+  unfolding termsSo
   by-start a b c = simp (eq-eqb (csOf s) (v .suite) a, eq-eqb (editionOf s) (v .edition) b, eq-eqb (frameOf s .size) (v .frame .size) c)
 
-  pub alike-terms : TermsAlike v s → settledSo v s ≡ true
+  pub alike-terms : TermsAlike v s → termsSo v s ≡ true
   alike-terms a = sym (by-start (a .suite-same) (a .edition-same) (a .size-same)) ∙ eq-eqb (frameOf s .start) (v .frame .start) (a .start-same)
 
-  pub not-settled : (TermsAlike v s → ⊥) → false ≡ settledSo v s
-  not-settled bad = refuted (settledSo v s) (λ h. bad (terms-alike h))
+  pub not-terms : (TermsAlike v s → ⊥) → false ≡ termsSo v s
+  not-terms bad = refuted (termsSo v s) (λ h. bad (terms-alike h))
 
   pub same-frame : TermsAlike v s → frameOf s ≡ v .frame
   same-frame a = rw (a .size-same, a .start-same)
@@ -87,13 +87,13 @@ module _ (v : SettledValues) (s : List ℕ) where
   pub stand-facts : stands v s ≡ true → Stands v s
   unfolding stands
   stand-facts h =
-      let front = and-left (namedSo (v .named) s && settledSo (v .terms) s) (eqb (entryOf s .accepted) 0) h in record {
-        named = named-alike (v .named) s (and-left (namedSo (v .named) s) (settledSo (v .terms) s) front);
-        terms = terms-alike (v .terms) s (and-right (namedSo (v .named) s) (settledSo (v .terms) s) front);
-        unused = eqb-true (entryOf s .accepted) 0 (and-right (namedSo (v .named) s && settledSo (v .terms) s) (eqb (entryOf s .accepted) 0) h);
+      let front = and-left (namedSo (v .named) s && termsSo (v .terms) s) (eqb (entryOf s .accepted) 0) h in record {
+        named = named-alike (v .named) s (and-left (namedSo (v .named) s) (termsSo (v .terms) s) front);
+        terms = terms-alike (v .terms) s (and-right (namedSo (v .named) s) (termsSo (v .terms) s) front);
+        unused = eqb-true (entryOf s .accepted) 0 (and-right (namedSo (v .named) s && termsSo (v .terms) s) (eqb (entryOf s .accepted) 0) h);
       }
 
-  pub by-total : namedSo (v .named) s ≡ true → settledSo (v .terms) s ≡ true → eqb (entryOf s .accepted) 0 ≡ stands v s
+  pub by-total : namedSo (v .named) s ≡ true → termsSo (v .terms) s ≡ true → eqb (entryOf s .accepted) 0 ≡ stands v s
   unfolding stands
   by-total a b = simp (a, b)
 
@@ -104,6 +104,6 @@ module _ (v : SettledValues) (s : List ℕ) where
   unfolding stands
   other-name e = rw e
 
-  pub other-terms : namedSo (v .named) s ≡ true → settledSo (v .terms) s ≡ false → false ≡ stands v s
+  pub other-terms : namedSo (v .named) s ≡ true → termsSo (v .terms) s ≡ false → false ≡ stands v s
   unfolding stands
   other-terms a b = simp (a, b)

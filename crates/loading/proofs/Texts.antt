@@ -7,16 +7,17 @@ use Prim.Native.Nat.{ℕ, _^_, _<_}
 use native.Mathlib.Nat.{mod-eq-of-lt}
 use native.Mathlib.Omega.{arith}
 use Rattle.octets.specs.Octets.{Bytes, bigEndian, bytesOf}
-use Rattle.octets.proofs.BigEndian.{number-bytes}
+use Rattle.octets.proofs.BigEndian.{number-bytes, number-lt}
 use Rattle.text.specs.Text.{decimalLine, hexLine}
-use Rattle.text.specs.Reading.{Read, failed, got, andThen}
+use Rattle.text.specs.Reading.{Read, failed, got, andThen, readDecimalLine, readHexLine, readBytesLine, readNumberLine}
 use Rattle.text.proofs.PrintedRead.{decimal-line, hex-line, bytes-line, number-line}
-use Rattle.text.proofs.ReadPrinted.{got-value, got-rest, hex-line-back, decimal-line-back, bytes-back, number-back, through}
+use Rattle.text.proofs.ReadPrinted.{got-value, got-rest, through, hex-line-back, decimal-line-back, bytes-line-back, bytes-back, number-back, number-small}
 use Rattle.listing.specs.Listing.{slotName, flagName, keyIdName, sourceName, suiteName, editionName, sizeName, startName, highestName, marksName, acceptedName, bytesName}
 use Rattle.loading.specs.Form.{NamedValues, SettledValues, MovedValues, Listing, readNamed, readTerms, readSettled, readMoved, atEnd, listingIn}
+use Rattle.slots.proofs.Settled.{Fits}
+use Rattle.loading.specs.Load.{listedEntry}
 use Rattle.loading.specs.declared.lines.TermLines.{TermLines}
-use Rattle.loading.proofs.Chains as chains
-use Rattle.loading.proofs.Stretches as lines
+use Rattle.loading.proofs.Chains.{Line, Prints, four-reads, four-was}
 use Rattle.loading.proofs.Stretches.{named-of, terms-of, moved-of, named-four, terms-four, moved-four, both-settled, text-read}
 
 -- ---- the lines of values
@@ -35,9 +36,23 @@ movedText v =
 abbrev pub listingText : Listing → List ℕ
 listingText l = namedText (l .settled .named) ++ termText (l .settled .terms) ++ movedText (l .moved)
 
--- four lines with a text behind them
-behind : (a b c d rest : List ℕ) → (a ++ b ++ c ++ d) ++ rest ≡ a ++ (b ++ (c ++ (d ++ rest)))
-behind a b c d rest = simp append-assoc
+-- ---- the kinds of lines
+
+abbrev decimal : List ℕ → Line ℕ
+decimal name = record { read = readDecimalLine name; print = decimalLine name }
+
+abbrev hex : List ℕ → Line (List ℕ)
+hex name = record { read = readHexLine name; print = hexLine name }
+
+-- a number of n bytes; n bytes; and n bytes as those of the number that they write
+abbrev number : List ℕ → ℕ → Line ℕ
+number name n = record { read = readNumberLine name n; print = λ x. hexLine name (bytesOf n x) }
+
+abbrev bytes : List ℕ → ℕ → Line (List ℕ)
+bytes name n = record { read = readBytesLine name n; print = hexLine name }
+
+abbrev numbered : List ℕ → ℕ → Line (List ℕ)
+numbered name n = record { read = readBytesLine name n; print = λ u. hexLine name (bytesOf n (bigEndian n u)) }
 
 -- ---- read back
 
@@ -69,39 +84,27 @@ module _ (l : Listing) (p : Plain l) where
   named-reads : (rest : List ℕ) → readNamed (namedText v ++ rest) ≡ got v rest
   unfolding namedText
   named-reads rest =
-      ap readNamed (behind (decimalLine slotName (v .slot)) (decimalLine flagName (v .flag)) (hexLine keyIdName (v .keyId)) (hexLine sourceName (v .source)) rest)
-      ∙ named-four _
-      ∙ chains.all-four lines.slot-line lines.flag-line lines.keyid-line lines.source-line named-of _
-      (decimal-line slotName _ (v .slot) (p .slot))
-      (decimal-line flagName _ (v .flag) (p .flag))
-      (hex-line keyIdName _ (v .keyId) (p .keyid))
-      (hex-line sourceName rest (v .source) (p .source))
+      named-four (namedText v ++ rest)
+      ∙ four-reads (decimal slotName) (decimal flagName) (hex keyIdName) (hex sourceName) named-of (v .slot) (v .flag) (v .keyId) (v .source) (λ l. decimal-line slotName l (v .slot) (p .slot)) (λ l. decimal-line flagName l (v .flag) (p .flag))
+      (λ l. hex-line keyIdName l (v .keyId) (p .keyid)) (λ l. hex-line sourceName l (v .source) (p .source)) rest
 
   terms-reads : (rest : List ℕ) → readTerms (termText w ++ rest) ≡ got w rest
   unfolding termText
   terms-reads rest =
-      ap readTerms
-      (behind (decimalLine suiteName (w .suite)) (decimalLine editionName (w .edition)) (decimalLine sizeName (w .frame .size)) (decimalLine startName (w .frame .start)) rest)
-      ∙ terms-four _
-      ∙ chains.all-four lines.suite-line lines.edition-line lines.size-line lines.start-line terms-of _
-      (decimal-line suiteName _ (w .suite) (p .suite))
-      (decimal-line editionName _ (w .edition) (p .edition))
-      (decimal-line sizeName _ (w .frame .size) (p .size))
-      (decimal-line startName rest (w .frame .start) (p .start))
+      terms-four (termText w ++ rest)
+      ∙ four-reads (decimal suiteName) (decimal editionName) (decimal sizeName) (decimal startName) terms-of (w .suite) (w .edition) (w .frame .size) (w .frame .start) (λ l. decimal-line suiteName l (w .suite) (p .suite))
+      (λ l. decimal-line editionName l (w .edition) (p .edition)) (λ l. decimal-line sizeName l (w .frame .size) (p .size))
+      (λ l. decimal-line startName l (w .frame .start) (p .start)) rest
 
   moved-reads : (rest : List ℕ) → readMoved (movedText m ++ rest) ≡ got m rest
   unfolding movedText
   moved-reads rest =
-      let marks : bigEndian 32 (bytesOf 32 (m .marks)) ≡ m .marks = number-bytes 32 (m .marks) ∙ mod-eq-of-lt (p .marks) in
-      ap readMoved
-      (behind (hexLine highestName (bytesOf 6 (m .highest))) (hexLine marksName (bytesOf 32 (m .marks))) (decimalLine acceptedName (m .accepted)) (decimalLine bytesName (m .bytes)) rest)
-      ∙ moved-four _
-      ∙ chains.all-four lines.highest-line lines.marks-line lines.accepted-line lines.bytes-line moved-of _
-      (number-line highestName _ 6 (m .highest) (p .highest))
-      (bytes-line marksName _ 32 (m .marks))
-      (decimal-line acceptedName _ (m .accepted) (p .accepted))
-      (decimal-line bytesName rest (m .bytes) (p .bytes))
-      ∙ ap (λ (x : ℕ). got (record { highest = m .highest; marks = x; accepted = m .accepted; bytes = m .bytes }) rest) marks
+      moved-four (movedText m ++ rest)
+      ∙ four-reads (number highestName 6) (bytes marksName 32) (decimal acceptedName) (decimal bytesName) moved-of (m .highest) (bytesOf 32 (m .marks)) (m .accepted) (m .bytes) (λ l. number-line highestName l 6 (m .highest) (p .highest))
+      (λ l. bytes-line marksName l 32 (m .marks)) (λ l. decimal-line acceptedName l (m .accepted) (p .accepted))
+      (λ l. decimal-line bytesName l (m .bytes) (p .bytes)) rest
+      ∙ ap (λ (x : ℕ). got (record { highest = m .highest; marks = x; accepted = m .accepted; bytes = m .bytes }) rest)
+      (number-bytes 32 (m .marks) ∙ mod-eq-of-lt (p .marks))
 
   -- the text of values is read as these values
   pub text-reads : listingIn (listingText l) ≡ some l
@@ -112,47 +115,29 @@ module _ (l : Listing) (p : Plain l) where
 
 -- ---- what was read is the lines of its values
 
+decimal-prints : (name : List ℕ) → Prints (decimal name)
+decimal-prints name text x rest e = decimal-line-back name text rest x e .0
+
+hex-prints : (name : List ℕ) → Prints (hex name)
+hex-prints name text u rest e = hex-line-back name text rest u e .0
+
 named-text : (text : List ℕ) (v : NamedValues) (rest : List ℕ) → readNamed text ≡ got v rest → text ≡ namedText v ++ rest
 unfolding namedText
 named-text text v rest e =
-    let q = chains.each lines.slot-line lines.flag-line lines.keyid-line lines.source-line named-of text v rest (sym (named-four text) ∙ e) in
-    let first = decimalLine slotName (q .w) in
-    let second = decimalLine flagName (q .x) in
-    let third = hexLine keyIdName (q .y) in
-    let all : text ≡ first ++ (second ++ (third ++ (hexLine sourceName (q .z) ++ rest))) =
-    decimal-line-back slotName text (q .l₁) (q .w) (q .first) .0
-    ∙ ap (λ (l : List ℕ). first ++ l) (decimal-line-back flagName (q .l₁) (q .l₂) (q .x) (q .second) .0
-    ∙ ap (λ (l : List ℕ). second ++ l) (hex-line-back keyIdName (q .l₂) (q .l₃) (q .y) (q .third) .0
-    ∙ ap (λ (l : List ℕ). third ++ l) (hex-line-back sourceName (q .l₃) rest (q .z) (q .fourth) .0))) in
-    subst (λ (u : NamedValues). text ≡ namedText u ++ rest) (q .made) (all ∙ sym (behind first second third (hexLine sourceName (q .z)) rest))
+    let q = four-was (decimal slotName) (decimal flagName) (hex keyIdName) (hex sourceName) named-of (decimal-prints slotName) (decimal-prints flagName) (hex-prints keyIdName) (hex-prints sourceName) text v rest (sym (named-four text) ∙ e) in
+    subst (λ (u : NamedValues). text ≡ namedText u ++ rest) (q .made) (q .is)
 
 term-text : (text : List ℕ) (v : TermLines) (rest : List ℕ) → readTerms text ≡ got v rest → text ≡ termText v ++ rest
 unfolding termText
 term-text text v rest e =
-    let q = chains.each lines.suite-line lines.edition-line lines.size-line lines.start-line terms-of text v rest (sym (terms-four text) ∙ e) in
-    let first = decimalLine suiteName (q .w) in
-    let second = decimalLine editionName (q .x) in
-    let third = decimalLine sizeName (q .y) in
-    let all : text ≡ first ++ (second ++ (third ++ (decimalLine startName (q .z) ++ rest))) =
-    decimal-line-back suiteName text (q .l₁) (q .w) (q .first) .0
-    ∙ ap (λ (l : List ℕ). first ++ l) (decimal-line-back editionName (q .l₁) (q .l₂) (q .x) (q .second) .0
-    ∙ ap (λ (l : List ℕ). second ++ l) (decimal-line-back sizeName (q .l₂) (q .l₃) (q .y) (q .third) .0
-    ∙ ap (λ (l : List ℕ). third ++ l) (decimal-line-back startName (q .l₃) rest (q .z) (q .fourth) .0))) in
-    subst (λ (u : TermLines). text ≡ termText u ++ rest) (q .made) (all ∙ sym (behind first second third (decimalLine startName (q .z)) rest))
+    let q = four-was (decimal suiteName) (decimal editionName) (decimal sizeName) (decimal startName) terms-of (decimal-prints suiteName) (decimal-prints editionName) (decimal-prints sizeName) (decimal-prints startName) text v rest (sym (terms-four text) ∙ e) in
+    subst (λ (u : TermLines). text ≡ termText u ++ rest) (q .made) (q .is)
 
 moved-text : (text : List ℕ) (v : MovedValues) (rest : List ℕ) → readMoved text ≡ got v rest → text ≡ movedText v ++ rest
 unfolding movedText
 moved-text text v rest e =
-    let q = chains.each lines.highest-line lines.marks-line lines.accepted-line lines.bytes-line moved-of text v rest (sym (moved-four text) ∙ e) in
-    let first = hexLine highestName (bytesOf 6 (q .w)) in
-    let second = hexLine marksName (bytesOf 32 (bigEndian 32 (q .x))) in
-    let third = decimalLine acceptedName (q .y) in
-    let all : text ≡ first ++ (second ++ (third ++ (decimalLine bytesName (q .z) ++ rest))) =
-    number-back highestName text (q .l₁) 6 (q .w) (q .first)
-    ∙ ap (λ (l : List ℕ). first ++ l) (bytes-back marksName (q .l₁) (q .l₂) 32 (q .x) (q .second)
-    ∙ ap (λ (l : List ℕ). second ++ l) (decimal-line-back acceptedName (q .l₂) (q .l₃) (q .y) (q .third) .0
-    ∙ ap (λ (l : List ℕ). third ++ l) (decimal-line-back bytesName (q .l₃) rest (q .z) (q .fourth) .0))) in
-    subst (λ (u : MovedValues). text ≡ movedText u ++ rest) (q .made) (all ∙ sym (behind first second third (decimalLine bytesName (q .z)) rest))
+    let q = four-was (number highestName 6) (numbered marksName 32) (decimal acceptedName) (decimal bytesName) moved-of (λ l x left e. number-back highestName l left 6 x e) (λ l u left e. bytes-back marksName l left 32 u e) (decimal-prints acceptedName) (decimal-prints bytesName) text v rest (sym (moved-four text) ∙ e) in
+    subst (λ (u : MovedValues). text ≡ movedText u ++ rest) (q .made) (q .is)
 
 settled-text : (text : List ℕ) (v : SettledValues) (rest : List ℕ) → readSettled text ≡ got v rest → text ≡ (namedText (v .named) ++ termText (v .terms)) ++ rest
 unfolding readSettled
@@ -180,4 +165,36 @@ listing-text text l e = whole (andThen (readSettled text) (λ s l₁. andThen (r
     whole : (o : Read Listing) → andThen (readSettled text) (λ s l₁. andThen (readMoved l₁) (λ m l₂. got (record { settled = s; moved = m }) l₂)) ≡ o → atEnd o ≡ some l → text ≡ listingText l
     whole failed g f = absurd (let z : _≡_ {A = ℕ} 0 1 = cc in omega arith)
     whole (got u []) g f = both u (let z : u ≡ l = cc in z) g
+    whole (got u (c ∷ left)) g f = absurd (let z : _≡_ {A = ℕ} 0 1 = cc in omega arith)
+
+-- ---- what was read fits its places
+
+moved-fits : (text : List ℕ) (v : MovedValues) (rest : List ℕ) → readMoved text ≡ got v rest
+    → (v .highest < 2 ^ 64) × (v .marks < 2 ^ 256) × (v .accepted < 2 ^ 64) × (v .bytes < 2 ^ 64)
+unfolding readMoved
+moved-fits text v rest e =
+    let a = through (readNumberLine highestName 6 text) _ v rest e in
+    let b = through (readBytesLine marksName 32 (a .left)) _ v rest (a .next) in
+    let c = through (readDecimalLine acceptedName (b .left)) _ v rest (b .next) in
+    let d = through (readDecimalLine bytesName (c .left)) _ v rest (c .next) in
+    let marks = bytes-line-back marksName (a .left) (b .left) 32 (b .value) (b .is) in
+    subst (λ (u : MovedValues). (u .highest < 2 ^ 64) × (u .marks < 2 ^ 256) × (u .accepted < 2 ^ 64) × (u .bytes < 2 ^ 64)) (got-value (d .next)) (
+      omega (arith, number-small highestName text (a .left) 6 (a .value) (a .is)),
+      number-lt 32 (b .value) (hex-line-back marksName (a .left) (b .left) (b .value) (marks .0) .1),
+      decimal-line-back acceptedName (b .left) (c .left) (c .value) (c .is) .1,
+      decimal-line-back bytesName (c .left) (d .left) (d .value) (d .is) .1,
+    )
+
+pub listing-fits : (text : List ℕ) (l : Listing) → listingIn text ≡ some l → Fits (listedEntry l)
+unfolding listingIn
+listing-fits text l e = whole (andThen (readSettled text) (λ s l₁. andThen (readMoved l₁) (λ m l₂. got (record { settled = s; moved = m }) l₂))) refl e
+  where
+    whole : (o : Read Listing) → andThen (readSettled text) (λ s l₁. andThen (readMoved l₁) (λ m l₂. got (record { settled = s; moved = m }) l₂)) ≡ o → atEnd o ≡ some l → Fits (listedEntry l)
+    whole failed g f = absurd (let z : _≡_ {A = ℕ} 0 1 = cc in omega arith)
+    whole (got u []) g f =
+        let a = through (readSettled text) _ u [] g in
+        let b = through (readMoved (a .left)) _ u [] (a .next) in
+        let h = moved-fits (a .left) (b .value) (b .left) (b .is) in
+        let is : record { settled = a .value; moved = b .value } ≡ l = got-value (b .next) ∙ (let z : u ≡ l = cc in z) in
+        subst (λ (z : Listing). Fits (listedEntry z)) is (record { highest = h .0; marks = h .1; accepted = h .2; bytes = h .3 })
     whole (got u (c ∷ left)) g f = absurd (let z : _≡_ {A = ℕ} 0 1 = cc in omega arith)

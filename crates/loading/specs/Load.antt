@@ -1,6 +1,6 @@
 -- Loading a listing (02, No. 6): "The entry with that slot, flag, KeyId, source, suite, edition, size and start must stand in the table with accepted 0;
 -- it then takes the listed highest, marks and totals. .. Refusals: 21 text not in this form; 22 no such entry with accepted 0; 23 the loaded record
--- would be damaged; in that order, the table unchanged."
+-- would be damaged; in that order, the table unchanged." No. 7: "Done, it and a load return the slot as install does."
 use mathlib.Core.Bool.{Bool, cond, _&&_}
 use mathlib.Core.List.{List}
 use mathlib.Core.Option.{Option, none, some}
@@ -28,12 +28,12 @@ abbrev pub sameFrame : Frame → Frame → Bool
 sameFrame f g = eqb (f .size) (g .size) && eqb (f .start) (g .start)
 
 -- and that suite, edition, size and start
-unfoldable pub settledSo : TermLines → List ℕ → Bool
-settledSo v s = eqb (csOf s) (v .suite) && eqb (editionOf s) (v .edition) && sameFrame (frameOf s) (v .frame)
+unfoldable pub termsSo : TermLines → List ℕ → Bool
+termsSo v s = eqb (csOf s) (v .suite) && eqb (editionOf s) (v .edition) && sameFrame (frameOf s) (v .frame)
 
 -- it stands there with accepted 0
 unfoldable pub stands : SettledValues → List ℕ → Bool
-stands v s = namedSo (v .named) s && settledSo (v .terms) s && eqb (entryOf s .accepted) 0
+stands v s = namedSo (v .named) s && termsSo (v .terms) s && eqb (entryOf s .accepted) 0
 
 -- ---- the loaded record
 

@@ -95,7 +95,7 @@ pub fn moved_at(text: &[u8], at: usize) -> Moved
     Moved::Is(moved, next)
 }
 
-// The place behind the lines that an install settled.
+// The place behind the lines that an install settled; the start of the text where they are bad, and then nothing that is read there matters.
 pub fn place(settled: Settled) -> usize
     ensures { λ r. ⌜ r ≡ placeOf settled ⌝ }
 {

@@ -55,7 +55,7 @@ pub fn moved<'a>(r: Reader<'a>) -> Moved
     lines::moved_at(r.text, r.at)
 }
 
-// Both stretches.
+// Both stretches as one answer, put together by a function so that `read` is nothing but calls.
 fn joined(first: Settled, second: Moved) -> Lines
     ensures { λ r. ⌜ r ≡ record { settled = first; moved = second } ⌝ }
 {

@@ -7,7 +7,7 @@ ghost use Rattle.window.specs.Window.{viewOf};
 ghost use Rattle.slots.specs.Table.{slotLength, tableLength};
 ghost use Rattle.entries.specs.Install.{IsLeft};
 ghost use Rattle.loading.specs.Found.{namedValues, settledValues, movedValues, NamedWithin, MovedWithin};
-ghost use Rattle.loading.specs.Load.{namedSo, settledSo, stands, takenUp, loaded};
+ghost use Rattle.loading.specs.Load.{namedSo, termsSo, stands, takenUp, loaded};
 use crate::lines::Moved;
 use crate::lines::MovedLines;
 use crate::lines::NamedLines;
@@ -85,7 +85,7 @@ fn stands(slot: &[u8], text: &[u8], named: NamedLines, terms: TermLines) -> bool
     if !named_so(slot, text, named) {
         return false;
     }
-    if !settled_so(slot, terms) {
+    if !terms_so(slot, terms) {
         return false;
     }
     octets::read(slot, layout::ACCEPTED, 8) == 0
@@ -124,9 +124,9 @@ fn named_so(slot: &[u8], text: &[u8], named: NamedLines) -> bool
 }
 
 // Whether it has the listed suite, edition, size and start.
-fn settled_so(slot: &[u8], terms: TermLines) -> bool
+fn terms_so(slot: &[u8], terms: TermLines) -> bool
     requires { ⌜ length (now slot) ≡ slotLength ⌝ }
-    ensures { λ r. ⌜ r ≡ settledSo terms (now (slot .entry)) ⌝ }
+    ensures { λ r. ⌜ r ≡ termsSo terms (now (slot .entry)) ⌝ }
 {
     if octets::wide(slot[layout::SUITE]) != terms.suite {
         return false;

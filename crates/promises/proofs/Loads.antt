@@ -2,44 +2,48 @@
 -- accepted 0, and makes it that entry byte for byte; and a load that is done begins a history, with the listed window and totals.
 -- Assumes nothing.
 use mathlib.Core.Path.{_≡_, refl, sym, ap, subst, _∙_}
-use mathlib.Core.Bool.{true}
-use mathlib.Core.List.{List}
+use mathlib.Core.Bool.{true, false, _||_}
+use mathlib.Core.List.{List, [], _∷_}
 use mathlib.Core.Logic.{_⊎_, inl, inr}
 use mathlib.Core.Option.{some}
 use Prim.Native.Nat.{ℕ, _≤_, _<_}
 use native.Mathlib.Omega.{arith}
-use borrow.Author.Tests.{le-ltb, lt-ltb, ne-eqb}
-use lib.ListN.{length, take, drop, getD}
+use lib.Dec.{ltb}
+use lib.ListN.{length, getD}
 use Rattle.octets.specs.Octets.{Bytes, put}
+use Rattle.octets.proofs.Parts.{length-part}
 use Rattle.answers.specs.Answers.{outputRoom}
 use Rattle.answers.specs.declared.Answer.{Answer}
-use Rattle.format.specs.KeyData.{KeyData, soundOf}
-use Rattle.format.proofs.Soundness.{Sound, sound-facts, sound-test}
+use Rattle.format.specs.KeyData.{KeyData}
+use Rattle.format.proofs.Soundness.{sound-facts, sound-test, sound-alike}
 use Rattle.window.specs.Window.{floorOf, marked}
 use Rattle.window.specs.Entry.{Entry}
-use Rattle.slots.specs.Table.{slotOf, occupied, keyIdOf, sourceOf, keyDataOf, entryOf, settled, replaced, slotCount, slotLength, tableLength, keyAt, highestAt, replaysAt}
+use Rattle.slots.specs.Table.{slotOf, keyIdOf, sourceOf, keyDataOf, entryOf, settled, replaced, slotCount, slotLength, tableLength, keyAt}
 use Rattle.slots.specs.Record.{undamaged}
 use Rattle.slots.proofs.Damage.{undamaged-sound}
-use Rattle.slots.proofs.Settled.{as-replaced, same-around}
+use Rattle.slots.proofs.Settled.{Around, as-replaced, same-around}
 use Rattle.slots.proofs.Slots.{slot-length}
-use Rattle.octets.proofs.Parts.{length-part}
 use Rattle.lookup.specs.Lookup.{leadsTo}
 use Rattle.lookup.specs.declared.Found.the-variants.{At}
 use Rattle.entries.specs.Install.{Left, doneAt}
 use Rattle.entries.proofs.Outcomes.{Refuses}
 use Rattle.listing.specs.Listing.{listingOf, listed}
+use Rattle.listing.proofs.Listed.{lists}
 use Rattle.loading.specs.Form.{Listing, listingIn}
 use Rattle.loading.specs.Load.{stands, listedEntry, loaded}
 use Rattle.loading.proofs.Outcomes.{Takes, load-outcome, taken-keys, taken-entry, taken-undamaged}
 use Rattle.loading.proofs.RoundTrip.{settledOf, printed-after}
 use Rattle.loading.proofs.RoundTrip as values
 use Rattle.loading.proofs.Standing.{stand-facts}
-use Rattle.promises.specs.Calls.{Call, load, after, run}
-use Rattle.promises.specs.Counted.{Beginning, standing}
-use Rattle.promises.specs.History.{Begins, GoesOn}
-use Rattle.promises.proofs.Held.{Held, held-settled}
+use Rattle.gateway.specs.Receive.{Received}
+use Rattle.promises.specs.Calls.{Call, load, OfBytes, after, run, Trace, lastOf}
+use Rattle.promises.specs.Counted.{Beginning, standing, Message, toldBy, counted}
+use Rattle.promises.specs.History.{Begins, GoesOn, Unended, one, handed, handedBy, Accounts}
+use Rattle.promises.proofs.Beginnings.{slot-begins}
+use Rattle.promises.proofs.Held.{held-settled}
+use Rattle.promises.proofs.History.{history, history-traced, no-used-number}
 use Rattle.promises.proofs.Runs.{begun, stands-on}
-use Rattle.promises.proofs.Steps.{unharmed}
+use Rattle.promises.proofs.Traces.{allowed-called}
 
 -- a load that is done takes what its text lists
 pub done-takes : (t text : List ℕ) → loaded t text .answer .reply ≡ 0 → (l : Listing) × Takes t text l
@@ -50,13 +54,6 @@ done-takes t text done = by (load-outcome t text)
     by (inr n) = n
 
 -- ---- printed again
-
--- an occupied, undamaged slot is listed
-pub lists : (t : List ℕ) (i : ℕ) (out : List ℕ) → outputRoom ≤ length out → i < slotCount → (getD (slotOf t i) 0 0 ≡ 0 → ⊥) → undamaged (slotOf t i) ≡ true
-    → listed t i out
-    ≡ record { answer = record { reply = 0; length = length (listingOf i (slotOf t i)); slot = i; seqnum = 0 }; out = put out 0 (listingOf i (slotOf t i)) }
-unfolding listed
-lists t i out room small held unharmed = rw (le-ltb (length out) outputRoom room, lt-ltb i slotCount small, ne-eqb (getD (slotOf t i) 0 0) 0 held, unharmed)
 
 -- "Printing after loading gives the same lines": the listing of the slot that a load answers is the text that was loaded, to the byte.
 pub print-after-load : (t : List ℕ) → length t ≡ tableLength → (text : List ℕ) → loaded t text .answer .reply ≡ 0 → (out : List ℕ) → outputRoom ≤ length out
@@ -77,21 +74,6 @@ print-after-load t long text done out room = by (done-takes t text done)
 
 -- ---- loaded again
 
--- soundness asks no more of a base key than its length
-sound-alike : (k other : KeyData) → Sound k → other .flag ≡ k .flag → other .keyId ≡ k .keyId → other .source ≡ k .source → other .suite ≡ k .suite
-    → other .edition ≡ k .edition → length (other .key) ≡ 32 → soundOf other ≡ true
-sound-alike k other s a b c d e f =
-    sound-test other (record {
-      flag-small = rw a (s .flag-small);
-      keyid-length = rw b (s .keyid-length);
-      source-least = rw c (s .source-least);
-      source-most = rw c (s .source-most);
-      key-length = f;
-      suite-known = rw d (s .suite-known);
-      edition-goes = rw (d, e) (s .edition-goes);
-      named = rw (a, b) (s .named);
-    })
-
 -- an undamaged entry of bytes, with its listing in slot i
 module _ (i : ℕ) (s : List ℕ) (small : i < slotCount) (keyid : Bytes (keyIdOf s)) (source : Bytes (sourceOf s)) (unharmed : undamaged s ≡ true)
     -- and a table where that entry stands with accepted 0
@@ -102,14 +84,13 @@ module _ (i : ℕ) (s : List ℕ) (small : i < slotCount) (keyid : Bytes (keyIdO
       let a = stand-facts (settledOf i s) (slotOf t i) there in
       let key : length (keyDataOf (slotOf t i) .key) ≡ 32 = length-part keyAt 32 (slotOf t i) (rw (slot-length t i long small) (omega arith)) in
       values.loads i s small keyid source unharmed t there
-      (sound-alike (keyDataOf s) (keyDataOf (slotOf t i)) (undamaged-sound s unharmed) (a .named .alike .flag-same) (a .named .alike .keyid-same)
-      (a .named .source-same) (a .terms .suite-same) (a .terms .edition-same) key)
+      (sound-test (keyDataOf (slotOf t i)) (sound-alike (undamaged-sound s unharmed) (a .named .alike .flag-same) (a .named .alike .keyid-same)
+      (a .named .source-same) (a .terms .suite-same) (a .terms .edition-same) key))
 
   -- and where the slot has the entry's bytes but for window and totals, it is then that entry, byte for byte.
-  pub listing-restores : length s ≡ slotLength → Bytes s → take highestAt (slotOf t i) ≡ take highestAt s → drop replaysAt (slotOf t i) ≡ drop replaysAt s
-      → loaded t (listingOf i s) .table ≡ replaced t i s
-  listing-restores full bytes front rest =
-      ap (λ (z : Left). z .table) listing-loads ∙ as-replaced t i (entryOf s) long small ∙ ap (replaced t i) (same-around s (slotOf t i) full bytes front rest)
+  pub listing-restores : length s ≡ slotLength → Bytes s → Around s (slotOf t i) → loaded t (listingOf i s) .table ≡ replaced t i s
+  listing-restores full bytes around =
+      ap (λ (z : Left). z .table) listing-loads ∙ as-replaced t i (entryOf s) long small ∙ ap (replaced t i) (same-around s (slotOf t i) full bytes around)
 
 -- ---- a history from there on
 
@@ -122,42 +103,51 @@ pub load-begins : (t : List ℕ) → length t ≡ tableLength → (text : List �
     → let k = keyDataOf (slotOf t i) in leadsTo t (k .flag) (k .keyId) (k .source) ≡ At i → Begins (standing k (listedEntry l)) i (after t (load text))
 load-begins t long text l read i done leads = by (done-takes t text (ap (λ (a : Answer). a .reply) done))
   where
-    begins : (j : ℕ) → j ≡ i → (m : Listing) → m ≡ l → Takes t text m → m .settled .named .slot ≡ j → Begins (standing (keyDataOf (slotOf t i)) (listedEntry l)) i (loaded t text .table)
-    begins j same m is n at =
-        let slot : m .settled .named .slot ≡ i = at ∙ same in
+    k : KeyData
+    k = keyDataOf (slotOf t i)
+
+    begins : (m : Listing) → m ≡ l → Takes t text m → m .settled .named .slot ≡ i → Begins (standing k (listedEntry l)) i (loaded t text .table)
+    begins m is n slot =
         let e = listedEntry m in
-        let k = keyDataOf (slotOf t i) in
-        let sound : soundOf k ≡ true = rw slot at (n .sound) in
-        let held : Held k i (settled t i e) = held-settled (record { long = long; sound = sound-facts k sound; keys = refl; leads = leads }) e in
-        let entry : entryOf (slotOf (settled t i e) i) ≡ e = rw slot at (taken-entry long n) in
-        let undamaged-there : undamaged (slotOf (settled t i e) i) ≡ true = rw slot at (taken-undamaged long n) in
-        let next : loaded t text .table ≡ settled t i e = ap (λ (z : Left). z .table) (n .is) ∙ ap (λ (x : ℕ). settled t x e) slot in
-        rw (next, ← is)
-        (record {
-          long = held .long;
-          keys = held .keys;
-          leads = held .leads;
-          unharmed = undamaged-there;
-          frame = ap (λ (x : Entry). x .window .frame) entry;
-          highest = ap (λ (x : Entry). x .window .highest) entry;
-          used =
-              λ x h.
-              ap (λ (y : Entry). marked (y .window) x) entry
-              ∙ sym (rw (le-ltb x (floorOf (e .window)) (subst (λ (y : Entry). floorOf (y .window) ≤ x) entry h)));
-          accepted = ap (λ (x : Entry). x .accepted) entry;
-          bytes = ap (λ (x : Entry). x .bytes) entry;
-        })
+        let next = settled t i e in
+        let held = held-settled (record { long = long; sound = sound-facts k (rw slot at (n .sound)); keys = refl; leads = leads }) e in
+        let there = slot-begins next (held .long) i (subst (λ (x : KeyData). leadsTo next (x .flag) (x .keyId) (x .source) ≡ At i) (sym (held .keys)) (held .leads)) (rw slot at (taken-undamaged long n)) in
+        let same : loaded t text .table ≡ next = ap (λ (z : Left). z .table) (n .is) ∙ ap (λ (x : ℕ). settled t x e) slot in
+        let listed-there = subst (λ (x : KeyData). Begins (standing x (entryOf (slotOf next i))) i next) (held .keys) there in
+        subst (λ (z : Listing). Begins (standing k (listedEntry z)) i (loaded t text .table)) is
+        (rw same (subst (λ (x : Entry). Begins (standing k x) i next) (rw slot at (taken-entry long n)) listed-there))
 
-    by : (m : Listing) × Takes t text m → Begins (standing (keyDataOf (slotOf t i)) (listedEntry l)) i (loaded t text .table)
-    by (m, n) =
-        begins i refl m (same-listing text (n .read) read) n (ap (λ (a : Answer). a .slot) (sym (ap (λ (z : Left). z .answer) (n .is)) ∙ done))
+    by : (m : Listing) × Takes t text m → Begins (standing k (listedEntry l)) i (loaded t text .table)
+    by (m, n) = begins m (same-listing text (n .read) read) n (ap (λ (a : Answer). a .slot) (sym (ap (λ (z : Left). z .answer) (n .is)) ∙ done))
 
--- So it does where a history stood, which knows that its messages lead there.
-pub load-history : {b : Beginning} {i : ℕ} {t : List ℕ} → Begins b i t → (cs : List Call) → GoesOn i t cs → (text : List ℕ) (l : Listing) → listingIn text ≡ some l
-    → loaded (run t cs) text .answer ≡ doneAt i → Begins (standing (b .keys) (listedEntry l)) i (after (run t cs) (load text))
-load-history {b} {i} {t} begins cs goes text l read done =
-    let held = stands-on (begun begins) cs goes .held in
-    let keys = held .keys in
-    subst (λ (k : KeyData). Begins (standing k (listedEntry l)) i (after (run t cs) (load text))) keys
-    (load-begins (run t cs) (held .long) text l read i done
-    (subst (λ (k : KeyData). leadsTo (run t cs) (k .flag) (k .keyId) (k .source) ≡ At i) (sym keys) (held .leads)))
+-- Where a history stood, it knows that its messages lead there. From it, by calls cs and a load of its slot that is answered 0:
+module _ {b : Beginning} {i : ℕ} {t : List ℕ} (begins : Begins b i t) (cs : List Call) (goes : GoesOn i t cs) (text : List ℕ) (l : Listing) (read : listingIn text ≡ some l) where
+  abbrev ran : List ℕ
+  ran = run t cs
+
+  -- a history begins, with the listed window and totals;
+  pub load-history : loaded ran text .answer ≡ doneAt i → Begins (standing (b .keys) (listedEntry l)) i (after ran (load text))
+  load-history done =
+      let held = stands-on (begun begins) cs goes .held in
+      let keys = held .keys in
+      subst (λ (k : KeyData). Begins (standing k (listedEntry l)) i (after ran (load text))) keys
+      (load-begins ran (held .long) text l read i done (subst (λ (k : KeyData). leadsTo ran (k .flag) (k .keyId) (k .source) ≡ At i) (sym keys) (held .leads)))
+
+  -- after any further calls the slot accounts for them;
+  pub history-loaded : loaded ran text .answer ≡ doneAt i → (ds : List Call) → GoesOn i (after ran (load text)) ds
+      → let c = standing (b .keys) (listedEntry l) in Accounts c i (run ran (load text ∷ ds)) (toldBy c ds)
+  history-loaded done ds on = history (load-history done) ds on
+
+  -- no listed mark and no number below the listed floor is handed out again;
+  pub listed-not-again : loaded ran text .answer ≡ doneAt i → (ds : List Call) → GoesOn i (after ran (load text)) ds → (c : Call) → OfBytes c → (x : Message)
+      → handed i (run ran (load text ∷ ds)) c ≡ one x
+      → let w = listedEntry l .window in (ltb (x .number) (floorOf w) || marked w (x .number)) ≡ false
+  listed-not-again done ds on c bytes x gave = no-used-number (load-history done) ds on c bytes x gave
+
+  -- and the same of calls that were made, the first of them the load.
+  pub loaded-traced : (r : Received) (ds : List Call) (rs : List Received) → Trace ran (load text ∷ ds) (r ∷ rs) → r .answer ≡ doneAt i → Unended i ds rs
+      → let c = standing (b .keys) (listedEntry l) in Accounts c i (lastOf ran (r ∷ rs)) (toldBy c ds) × (handedBy i [] ds rs ≡ counted c ds)
+  loaded-traced r ds rs trace done unended =
+      let is = allowed-called ran (load text) r (trace .0) in
+      let from = load-history (sym (ap (λ (x : Received). x .answer) is) ∙ done) in
+      history-traced (subst (λ (x : Received). Begins (standing (b .keys) (listedEntry l)) i (x .table)) (sym is) from) ds rs (trace .1) unended

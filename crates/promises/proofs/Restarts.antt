@@ -2,47 +2,60 @@
 -- that entry their replies, payloads and totals are those of the gateway that never stopped.
 -- Assumes nothing.
 use mathlib.Core.Path.{_≡_, refl, sym, ap, subst, _∙_}
-use mathlib.Core.Bool.{Bool, true, false}
+use mathlib.Core.Bool.{Bool, true, false, true≢false, not-eq-not}
 use mathlib.Core.List.{List, [], _∷_}
 use mathlib.Core.Logic.{_⊎_, inl, inr}
 use Prim.Native.Nat.{ℕ, _≤_}
+use native.Mathlib.Nat.{zero-add}
 use native.Mathlib.Omega.{arith}
-use borrow.Author.Tests.{ltb-false}
+use borrow.Author.Tests.{eqb-true, eq-eqb, ne-eqb, ltb-false}
 use lib.Dec.{ltb}
-use lib.ListN.{length, replicate}
+use lib.ListN.{length, getD, take, drop, replicate, length-replicate}
+use lib.Seq.{take-append-seam}
 use Rattle.octets.specs.Octets.{Bytes, put}
 use Rattle.answers.specs.Answers.{refused, outputRoom}
 use Rattle.answers.specs.declared.Answer.{Answer}
 use Rattle.format.specs.Header.{readOf}
-use Rattle.format.specs.KeyData.{KeyData}
+use Rattle.format.specs.KeyData.{KeyData, soundOf}
 use Rattle.format.specs.declared.header.Header.{Header}
 use Rattle.format.specs.declared.header.Parsed.the-variants.{Read}
+use Rattle.format.proofs.Soundness.{sound-facts}
 use Rattle.message.specs.Sealing.{opened}
 use Rattle.window.specs.declared.Frame.{Frame}
 use Rattle.window.specs.Entry.{Entry, taken}
-use Rattle.slots.specs.Table.{slotOf, windowOf, keyIdOf, sourceOf, keyDataOf, entryOf, settled, tableLength}
+use Rattle.window.proofs.Entries.{entry-test}
+use Rattle.slots.specs.Table.{slotOf, occupied, windowOf, keyIdOf, sourceOf, keyDataOf, entryOf, settled, tableLength, occupiedAt, highestAt, replaysAt}
 use Rattle.slots.proofs.Damage.{undamaged-entry}
-use Rattle.slots.proofs.Settled.{entry-settled}
+use Rattle.slots.proofs.Replacing.{slot-own}
+use Rattle.slots.proofs.Settled.{Around, same-around, slot-settled, entry-settled}
+use Rattle.slots.proofs.Slots.{slot-length}
 use Rattle.lookup.specs.Lookup.{matches, leadsTo, firstFree}
 use Rattle.lookup.specs.declared.Found.the-variants.{At, Nothing}
+use Rattle.lookup.proofs.Firsts.{free-small}
 use Rattle.entries.specs.Fresh.{freshSlot}
-use Rattle.entries.specs.Install.{Left, doneAt, placed, installed}
+use Rattle.entries.specs.Install.{Left, doneAt, placed, installed, removed}
+use Rattle.entries.proofs.Fresh.{length-fresh}
 use Rattle.entries.proofs.Installs.{installs-alone}
-use Rattle.entries.proofs.Outcomes.{Refuses, Enters, install-outcome}
+use Rattle.entries.proofs.Outcomes.{Refuses, Enters, Frees, install-outcome, remove-outcome}
+use Rattle.entries.proofs.Removing.{removes}
 use Rattle.listing.specs.Listing.{listingOf, listed}
-use Rattle.loading.specs.Load.{stands, loaded}
+use Rattle.listing.proofs.Listed.{lists}
+use Rattle.loading.specs.Form.{SettledValues, Listing}
+use Rattle.loading.specs.Load.{stands, listedEntry, loaded}
+use Rattle.loading.proofs.Loads.{is-read, takes-up}
+use Rattle.loading.proofs.Outcomes.{Takes, load-outcome}
 use Rattle.loading.proofs.RoundTrip.{settledOf, valuesOf, listing-read}
+use Rattle.loading.proofs.Standing as Taken
 use Rattle.loading.proofs.Standing.{stand-test}
 use Rattle.gateway.specs.Receive.{Received, received}
-use Rattle.promises.specs.Calls.{Call, arrival, install, load, called, after, run, results, Trace, lastOf}
-use Rattle.promises.specs.Counted.{Beginning, fresh, standing, Message, messages, numbersOf, isOf, Told, apart, below, used, forged, new, told, toldFrom, toldBy, counted}
-use Rattle.promises.specs.History.{Begins, Handed, nothing, one, handed, handedBy, GoesOn, SpareAll, different, countedOf, replyTo, Alike}
+use Rattle.promises.specs.Calls.{Call, arrival, install, remove, load, called, after, run, isDone, Trace, lastOf}
+use Rattle.promises.specs.Counted.{Beginning, fresh, standing, Message, numbersOf, isOf, Told, apart, below, used, forged, new, told, toldFrom, toldBy, counted}
+use Rattle.promises.specs.History.{Begins, Handed, nothing, one, handedBy, Unended, GoesOn, ends, different, countedOf, replyTo, SameFor, Resumed}
 use Rattle.promises.proofs.Beginnings.{install-begins, slot-begins}
-use Rattle.promises.proofs.History.{history}
-use Rattle.promises.proofs.Held.{held-small, held-alike}
-use Rattle.promises.proofs.Loads.{lists, listing-loads, load-history}
+use Rattle.promises.proofs.Held.{Held, held-small, held-alike}
+use Rattle.promises.proofs.Loads.{listing-loads, load-history}
 use Rattle.promises.proofs.Refusals.{receive-keeps}
-use Rattle.promises.proofs.Runs.{begun, stands-on, hands-on, accounts, spared}
+use Rattle.promises.proofs.Runs.{begun, stands-on, hands-on, accounts}
 use Rattle.promises.proofs.Steps.{Stands, arrives, replied, step, unharmed}
 use Rattle.promises.proofs.Traces.{trace-results, trace-run}
 use Rattle.promises.proofs.Worthless.{answered-gives}
@@ -93,11 +106,40 @@ module _ {b : Beginning} {i : ℕ} {t : List ℕ} {past : List Told} (now : Stan
 
 -- ---- two tables in step
 
+-- what a listing names in one slot it names in another with the same key data and frame, where that has accepted 0
+named-again : {k : KeyData} {i : ℕ} {u s : List ℕ} → Held k i u → (v : SettledValues) → Taken.NamedAlike (v .named) s → Taken.TermsAlike (v .terms) s
+    → keyDataOf (slotOf u i) ≡ keyDataOf s → windowOf (slotOf u i) .frame ≡ windowOf s .frame → entryOf (slotOf u i) .accepted ≡ 0 → Taken.Stands v (slotOf u i)
+named-again held v name terms keys frame unused =
+    let a = held-alike held in record {
+      named = record {
+        alike = record {
+          held = a .held;
+          keyid-short = a .keyid-short;
+          source-short = a .source-short;
+          flag-same = ap (λ (k : KeyData). k .flag) keys ∙ name .alike .flag-same;
+          keyid-same = ap (λ (k : KeyData). k .keyId) keys ∙ name .alike .keyid-same;
+        };
+        source-same = ap (λ (k : KeyData). k .source) keys ∙ name .source-same;
+      };
+      terms = record {
+        suite-same = ap (λ (k : KeyData). k .suite) keys ∙ terms .suite-same;
+        edition-same = ap (λ (k : KeyData). k .edition) keys ∙ terms .edition-same;
+        size-same = ap (λ (f : Frame). f .size) frame ∙ terms .size-same;
+        start-same = ap (λ (f : Frame). f .start) frame ∙ terms .start-same;
+      };
+      unused = unused;
+    }
+
 -- the entry stands in both, with the same past, and is the same
 record InStep (b : Beginning) (i : ℕ) (t u : List ℕ) (past : List Told) : Type 0 where
   first : Stands b i t past
   second : Stands b i u past
   entries : entryOf (slotOf t i) ≡ entryOf (slotOf u i)
+
+-- calls have left both so, and go on in the second
+record Goes (b : Beginning) (i : ℕ) (t u : List ℕ) (past : List Told) (es : List Call) : Type 0 where
+  on : GoesOn i u es
+  both : InStep b i (run t es) (run u es) (toldFrom b past es)
 
 module _ {b : Beginning} {i : ℕ} where
   module _ {t u : List ℕ} {past : List Told} (both : InStep b i t u past) where
@@ -116,29 +158,78 @@ module _ {b : Beginning} {i : ℕ} where
             let q = both-told (both .second) m source out bytes room h read mine w refl in
             (p .0 ∙ sym (q .0), p .1 ∙ sym (q .1))
 
-    alike : Alike (b .keys) i t u
+    alike : SameFor (b .keys) i t u
     alike = record {
       entries = both .entries;
       hands = λ c bytes. accounts (both .first) .exactly c bytes ∙ sym (accounts (both .second) .exactly c bytes);
       answers = same-answer;
     }
 
-  -- and stay so
-  in-step : {t u : List ℕ} {past : List Told} → InStep b i t u past → (es : List Call) → GoesOn i t es → GoesOn i u es
-      → InStep b i (run t es) (run u es) (toldFrom b past es)
-  in-step both [] p q = both
-  in-step {t} {u} {past} both (c ∷ es) p q =
-      let first = step (both .first) c (p .0) (p .1) in
-      let second = step (both .second) c (q .0) (q .1) in
-      in-step (record { first = first .stands; second = second .stands; entries = moves (countedOf (told b past c)) refl }) es (p .2) (q .2)
+  swapped : {t u : List ℕ} {past : List Told} → InStep b i t u past → InStep b i u t past
+  swapped both = record { first = both .second; second = both .first; entries = sym (both .entries) }
+
+  -- what ends the history in one ends it in the other: a removal or a load that is done at the slot
+  removes-too : {t u : List ℕ} {past : List Told} → InStep b i t u past → (j : ℕ) → isDone i (removed t j .answer) ≡ true → isDone i (removed u j .answer) ≡ true
+  removes-too {t} {u} both j done = by (remove-outcome t j) (remove-outcome u j)
     where
-      moves : (x : Handed) → countedOf (told b past c) ≡ x → entryOf (slotOf (after t c) i) ≡ entryOf (slotOf (after u c) i)
-      moves nothing e =
-          ap entryOf (step (both .first) c (p .0) (p .1) .untouched e) ∙ both .entries ∙ sym (ap entryOf (step (both .second) c (q .0) (q .1) .untouched e))
-      moves (one x) e =
+      by : Refuses t (removed t j) ⊎ Frees t j → Refuses u (removed u j) ⊎ Frees u j → isDone i (removed u j .answer) ≡ true
+      by (inl r) q = absurd (true≢false (sym done ∙ rw (r .is, ne-eqb (r .reply) 0 (λ z. omega (arith, r .some)))))
+      by (inr f) (inr g) = rw (g .is) (rw (f .is) at done)
+      by (inr f) (inl r) =
+          let same : j ≡ i = eqb-true j i (rw (f .is) at done) in
+          let small = held-small (both .second .held) in
+          let busy : occupied (slotOf u j) ≡ true = rw (same, ne-eqb (getD (slotOf u i) occupiedAt 0) 0 (held-alike (both .second .held) .held)) in
+          absurd (omega (arith, r .some, ap (λ (l : Left). l .answer .reply) (sym (r .is) ∙ removes u j (rw same small) busy)))
+
+  -- the entry that a listing names stands in one as in the other
+  stands-too : {t u : List ℕ} {past : List Told} → InStep b i t u past → (v : SettledValues) → Taken.Stands v (slotOf t i) → Taken.Stands v (slotOf u i)
+  stands-too both v s =
+      named-again (both .second .held) v (s .named) (s .terms) (both .second .held .keys ∙ sym (both .first .held .keys))
+      (both .second .agrees .framed ∙ sym (both .first .agrees .framed)) (ap (λ (e : Entry). e .accepted) (sym (both .entries)) ∙ s .unused)
+
+  loads-too : {t u : List ℕ} {past : List Told} → InStep b i t u past → (text : List ℕ) → isDone i (loaded t text .answer) ≡ true → isDone i (loaded u text .answer) ≡ true
+  loads-too {t} {u} both text done = by (load-outcome t text)
+    where
+      by : Refuses t (loaded t text) ⊎ ((l : Listing) × Takes t text l) → isDone i (loaded u text .answer) ≡ true
+      by (inl r) = absurd (true≢false (sym done ∙ rw (r .is, ne-eqb (r .reply) 0 (λ z. omega (arith, r .some)))))
+      by (inr (l, n)) =
+          let slot : l .settled .named .slot ≡ i = eqb-true (l .settled .named .slot) i (rw (n .is) at done) in
+          let there = stand-test (l .settled) (slotOf u i) (stands-too both (l .settled) (subst (λ (x : ℕ). Taken.Stands (l .settled) (slotOf t x)) slot (n .stands))) in
+          let sound : soundOf (keyDataOf (slotOf u i)) ≡ true = ap soundOf (both .second .held .keys ∙ sym (both .first .held .keys)) ∙ subst (λ (x : ℕ). soundOf (keyDataOf (slotOf t x)) ≡ true) slot (n .sound) in
+          let is = is-read u text (n .read) ∙ takes-up u l (n .small) (subst (λ (x : ℕ). stands (l .settled) (slotOf u x) ≡ true) (sym slot) there) (subst (λ (x : ℕ). soundOf (keyDataOf (slotOf u x)) ≡ true) (sym slot) sound) (entry-test (listedEntry l) (n .unharmed)) in
+          rw (is, slot, eq-eqb i i refl)
+
+  ends-too : {t u : List ℕ} {past : List Told} → InStep b i t u past → (c : Call) → ends i c (called t c .answer) ≡ false → ends i c (called u c .answer) ≡ false
+  ends-too both (arrival m source out) goes = refl
+  ends-too both (install k f) goes = refl
+  ends-too both (remove j) goes = not-eq-not .0 (λ e. true≢false (sym (removes-too (swapped both) j e) ∙ goes))
+  ends-too both (load text) goes = not-eq-not .0 (λ e. true≢false (sym (loads-too (swapped both) text e) ∙ goes))
+
+  -- so both go on alike, and stay in step
+  in-step : {t u : List ℕ} {past : List Told} → InStep b i t u past → (es : List Call) → GoesOn i t es → Goes b i t u past es
+  in-step both [] p = record { on = tt; both = both }
+  in-step {t} {u} {past} both (c ∷ es) p =
+      let go = ends-too both c (p .1) in
+      let first = step (both .first) c (p .0) (p .1) in
+      let second = step (both .second) c (p .0) go in
+      let rest = in-step (record { first = first .stands; second = second .stands; entries = moves go (countedOf (told b past c)) refl }) es (p .2) in
+      record { on = (p .0, go, rest .on); both = rest .both }
+    where
+      moves : ends i c (called u c .answer) ≡ false → (x : Handed) → countedOf (told b past c) ≡ x → entryOf (slotOf (after t c) i) ≡ entryOf (slotOf (after u c) i)
+      moves go nothing e =
+          ap entryOf (step (both .first) c (p .0) (p .1) .untouched e) ∙ both .entries ∙ sym (ap entryOf (step (both .second) c (p .0) go .untouched e))
+      moves go (one x) e =
           step (both .first) c (p .0) (p .1) .takes x e
           ∙ ap (λ (z : Entry). taken z (x .number) (x .payload)) (both .entries)
-          ∙ sym (step (both .second) c (q .0) (q .1) .takes x e)
+          ∙ sym (step (both .second) c (p .0) go .takes x e)
+
+  -- calls leave the bytes around window and totals
+  pub around-on : {t : List ℕ} {past : List Told} → Stands b i t past → (cs : List Call) → GoesOn i t cs → Around (slotOf t i) (slotOf (run t cs) i)
+  around-on now [] goes = record { front = refl; rest = refl }
+  around-on now (c ∷ cs) goes =
+      let d = step now c (goes .0) (goes .1) in
+      let later = around-on (d .stands) cs (goes .2) in
+      record { front = later .front ∙ d .around .front; rest = later .rest ∙ d .around .rest }
 
 -- what stands in a slot begins a history of its own
 stands-begins : {b : Beginning} {i : ℕ} {t : List ℕ} {past : List Told} → Stands b i t past → Begins (standing (b .keys) (entryOf (slotOf t i))) i t
@@ -181,28 +272,16 @@ module _ {b : Beginning} {i : ℕ} {t : List ℕ} (begins : Begins b i t) (keyid
 
     there : stands (settledOf i (slotOf ran i)) (slotOf anew i) ≡ true
     there =
-        let keys : keyDataOf (slotOf anew i) ≡ keyDataOf (slotOf ran i) = waits .held .keys ∙ sym (now .held .keys) in
-        let frame : windowOf (slotOf anew i) .frame ≡ windowOf (slotOf ran i) .frame = waits .agrees .framed ∙ sym (now .agrees .framed) in
-        let a = held-alike (waits .held) in
-        stand-test (settledOf i (slotOf ran i)) (slotOf anew i) (record {
-          named = record {
-            alike = record {
-              held = a .held;
-              keyid-short = a .keyid-short;
-              source-short = a .source-short;
-              flag-same = ap (λ (k : KeyData). k .flag) keys;
-              keyid-same = ap (λ (k : KeyData). k .keyId) keys;
-            };
-            source-same = ap (λ (k : KeyData). k .source) keys;
-          };
-          terms = record {
-            suite-same = ap (λ (k : KeyData). k .suite) keys;
-            edition-same = ap (λ (k : KeyData). k .edition) keys;
-            size-same = ap (λ (f : Frame). f .size) frame;
-            start-same = ap (λ (f : Frame). f .start) frame;
-          };
-          unused = omega (arith, accounts waits .accepted, ap (λ (xs : List Message). length (different (numbersOf xs))) none);
+        let a = held-alike (now .held) in
+        stand-test (settledOf i (slotOf ran i)) (slotOf anew i)
+        (named-again {s = slotOf ran i} (waits .held) (settledOf i (slotOf ran i))
+        (record {
+          alike = record { held = a .held; keyid-short = a .keyid-short; source-short = a .source-short; flag-same = refl; keyid-same = refl };
+          source-same = refl;
         })
+        (record { suite-same = refl; edition-same = refl; size-same = refl; start-same = refl }) (waits .held .keys ∙ sym (now .held .keys))
+        (waits .agrees .framed ∙ sym (now .agrees .framed))
+        (omega (arith, accounts waits .accepted, ap (λ (xs : List Message). length (different (numbersOf xs))) none)))
 
     -- there the listing loads,
     pub reloads : loaded anew text ≡ record { answer = doneAt i; table = settled anew i (entryOf (slotOf ran i)) }
@@ -224,40 +303,96 @@ module _ {b : Beginning} {i : ℕ} {t : List ℕ} (begins : Begins b i t) (keyid
               ∙ entry-settled anew i e (waits .held .long) small (undamaged-entry (slotOf ran i) (unharmed now)) (waits .agrees .framed ∙ sym (now .agrees .framed)));
         }
 
-    -- and after any further calls that neither remove the entry nor have a listing of it, both gateways do the same for it,
-    pub restarted : (es : List Call) → SpareAll i es → Alike (b .keys) i (run ran es) (run (after anew (load text)) es)
-    restarted es spare = alike (in-step started es (spared i ran es spare) (spared i (after anew (load text)) es spare))
+    -- and after any further calls that do not end the history of the gateway that never stopped, both have gone on alike, do the same for the entry,
+    -- and have handed out the same there.
+    goes-on : (es : List Call) → GoesOn i ran es → Goes (standing (b .keys) (entryOf (slotOf ran i))) i ran (after anew (load text)) [] es
+    goes-on es further = in-step started es further
 
-    -- and have handed out the same.
-    pub restarted-hands : (es : List Call) → SpareAll i es
-        → handedBy i [] es (results ran es) ≡ handedBy i [] es (results (after anew (load text)) es)
-    restarted-hands es spare =
-        hands-on (started .first) es (spared i ran es spare) ∙ sym (hands-on (started .second) es (spared i (after anew (load text)) es spare))
+    pub restarted : (es : List Call) → GoesOn i ran es → Resumed (b .keys) i ran (after anew (load text)) es
+    restarted es further =
+        let g = goes-on es further in record {
+          goes = g .on;
+          same = alike (g .both);
+          hands = hands-on (started .first) es further ∙ sym (hands-on (started .second) es (g .on));
+        }
 
     -- The same of calls that were made.
-    pub restarted-traced : (es : List Call) → SpareAll i es → (rs qs : List Received) → Trace ran es rs → Trace (after anew (load text)) es qs
-        → Alike (b .keys) i (lastOf ran rs) (lastOf (after anew (load text)) qs) × (handedBy i [] es rs ≡ handedBy i [] es qs)
-    restarted-traced es spare rs qs p q = (
-      rw (trace-run ran es rs p, trace-run (after anew (load text)) es qs q) (restarted es spare),
-      ap (handedBy i [] es) (trace-results ran es rs p) ∙ restarted-hands es spare ∙ sym (ap (handedBy i [] es) (trace-results (after anew (load text)) es qs q)),
-    )
+    pub restarted-traced : (es : List Call) (rs qs : List Received) → Trace ran es rs → Unended i es rs → Trace (after anew (load text)) es qs
+        → SameFor (b .keys) i (lastOf ran rs) (lastOf (after anew (load text)) qs) × (handedBy i [] es rs ≡ handedBy i [] es qs)
+    restarted-traced es rs qs p unended q =
+        let r = restarted es (subst (Unended i es) (trace-results ran es rs p) unended) in (
+          rw (trace-run ran es rs p, trace-run (after anew (load text)) es qs q) (r .same),
+          ap (handedBy i [] es) (trace-results ran es rs p) ∙ r .hands ∙ sym (ap (handedBy i [] es) (trace-results (after anew (load text)) es qs q)),
+        )
 
 -- ---- for operators
 
--- Run calls, print, restart, run further calls: install k f in a table and calls cs; then, in another table where the same install is answered with the
--- same slot, a load of the listing, and further calls es that neither remove the entry nor have a listing of it. The entry is as in the gateway that
--- never stopped, replies and payloads are the same there for its messages, and so is all that es handed out.
-pub restart : (t u : List ℕ) → length t ≡ tableLength → length u ≡ tableLength → (k : KeyData) (f : Frame) → Bytes (k .keyId) → Bytes (k .source)
-    → (i : ℕ) → installed t k f .answer ≡ doneAt i → installed u k f .answer ≡ doneAt i
-    → (cs : List Call) → GoesOn i (after t (install k f)) cs → (es : List Call) → SpareAll i es
-    → let ran = run t (install k f ∷ cs) in let anew = run u (install k f ∷ load (listingOf i (slotOf ran i)) ∷ []) in
-    Alike k i (run ran es) (run anew es) × (handedBy i [] es (results ran es) ≡ handedBy i [] es (results anew es))
-restart t u tl ul k f keyid source i first second cs goes es spare =
-    let begins = install-begins t tl k f keyid i first in
-    let again = install-begins u ul k f keyid i second in
-    (restarted begins keyid source cs goes again [] tt refl es spare, restarted-hands begins keyid source cs goes again [] tt refl es spare)
+-- what stands at the start of an output is taken from there
+taken-back : (out printed : List ℕ) → take (length printed) (put out 0 printed) ≡ printed
+taken-back out printed = rw (zero-add (length printed)) (take-append-seam printed (drop (length printed) out))
 
--- An empty table answers slot 0 to every install that is answered 0 elsewhere.
+-- an install that is done leaves a fresh slot
+fresh-there : (t : List ℕ) → length t ≡ tableLength → (k : KeyData) (f : Frame) → Bytes (k .keyId) → (i : ℕ) → installed t k f .answer ≡ doneAt i
+    → slotOf (after t (install k f)) i ≡ freshSlot k f
+fresh-there t long k f bytes i done = by (install-outcome t k f)
+  where
+    by : Refuses t (installed t k f) ⊎ ((j : ℕ) × Enters t k f j) → slotOf (installed t k f .table) i ≡ freshSlot k f
+    by (inl r) = absurd (omega (arith, r .some, ap (λ (a : Answer). a .reply) (rw (r .is) at done)))
+    by (inr (j, n)) =
+        let same : j ≡ i = ap (λ (a : Answer). a .slot) (rw (n .is) at done) in
+        rw (n .is, ← same) (slot-own t j (freshSlot k f) long (free-small t j (n .free)) (length-fresh (sound-facts k (n .fair .sound)) (bytes 0) f))
+
+-- Run calls, print, restart, run further calls. A gateway installs k with the frame f, makes calls cs, and lists the entry into an output with room.
+-- Another gateway installs the same, is answered with the same slot, makes calls ds that count nothing there, and loads what was printed.
+module _ (t u : List ℕ) (tl : length t ≡ tableLength) (ul : length u ≡ tableLength) (k : KeyData) (f : Frame) (keyid : Bytes (k .keyId)) (source : Bytes (k .source))
+    (i : ℕ) (first : installed t k f .answer ≡ doneAt i) (second : installed u k f .answer ≡ doneAt i)
+    (cs : List Call) (goes : GoesOn i (after t (install k f)) cs) (ds : List Call) (on : GoesOn i (after u (install k f)) ds) (none : counted (fresh k f) ds ≡ [])
+    (out : List ℕ) (room : outputRoom ≤ length out) where
+  abbrev stopped : List ℕ
+  stopped = run t (install k f ∷ cs)
+
+  abbrev print : List ℕ
+  print = let p = listed stopped i out in take (p .answer .length) (p .out)
+
+  abbrev resumed : List ℕ
+  resumed = after (run u (install k f ∷ ds)) (load print)
+
+  begins : Begins (fresh k f) i (after t (install k f))
+  begins = install-begins t tl k f keyid i first
+
+  again : Begins (fresh k f) i (after u (install k f))
+  again = install-begins u ul k f keyid i second
+
+  is-print : listingOf i (slotOf stopped i) ≡ print
+  is-print = sym (rw (prints begins keyid source cs goes out room) (taken-back out (listingOf i (slotOf stopped i))))
+
+  -- The load is answered with the slot. Then, after any further calls that do not end the entry's history in the gateway that never stopped, its replies,
+  -- payloads and totals are the same in both.
+  pub restart : (loaded (run u (install k f ∷ ds)) print .answer ≡ doneAt i) × ((es : List Call) → GoesOn i stopped es → Resumed k i stopped resumed es)
+  restart =
+      subst (λ (x : List ℕ). (loaded (run u (install k f ∷ ds)) x .answer ≡ doneAt i) × ((es : List Call) → GoesOn i stopped es → Resumed k i stopped (after (run u (install k f ∷ ds)) (load x)) es)) is-print
+      (ap (λ (z : Left). z .answer) (reloads begins keyid source cs goes again ds on none), restarted begins keyid source cs goes again ds on none)
+
+  -- And the slot is, byte for byte, the one that was printed.
+  pub restart-bytes : Bytes (slotOf stopped i) → slotOf resumed i ≡ slotOf stopped i
+  restart-bytes bytes =
+      let s = slotOf stopped i in
+      let v = run u (install k f ∷ ds) in
+      let now = stands-on (begun begins) cs goes in
+      let waits = stands-on (begun again) ds on in
+      let small = held-small (now .held) in
+      let here = around-on (begun begins) cs goes in
+      let there = around-on (begun again) ds on in
+      let alike-fresh = fresh-there u ul k f keyid i second ∙ sym (fresh-there t tl k f keyid i first) in
+      let around : Around s (slotOf v i) = record {
+        front = there .front ∙ ap (take highestAt) alike-fresh ∙ sym (here .front);
+        rest = there .rest ∙ ap (drop replaysAt) alike-fresh ∙ sym (here .rest);
+      } in
+      let is = subst (λ (x : List ℕ). loaded v x ≡ record { answer = doneAt i; table = settled v i (entryOf s) }) is-print (reloads begins keyid source cs goes again ds on none) in
+      ap (λ (z : Left). slotOf (z .table) i) is ∙ slot-settled v i (entryOf s) (waits .held .long) small
+      ∙ same-around s (slotOf v i) (slot-length stopped i (now .held .long) small) bytes around
+
+-- An empty table answers slot 0 to every install that is answered 0 elsewhere,
 abbrev empty : List ℕ
 empty = replicate tableLength 0
 
@@ -277,3 +412,11 @@ empty-installs t k f i done = by (install-outcome t k f)
     by (inr (j, n)) =
         ap (λ (l : Left). l .answer)
         (installs-alone empty k f (n .fair) (nowhere (k .flag) (k .keyId) (k .source)) ∙ ap (placed empty (freshSlot k f)) first-slot)
+
+-- so an entry that stood in slot 0 resumes from an empty table, an install and a load.
+pub restart-empty : (t : List ℕ) → length t ≡ tableLength → (k : KeyData) (f : Frame) → Bytes (k .keyId) → Bytes (k .source) → installed t k f .answer ≡ doneAt 0
+    → (cs : List Call) → GoesOn 0 (after t (install k f)) cs → (out : List ℕ) → outputRoom ≤ length out → (es : List Call) → GoesOn 0 (run t (install k f ∷ cs)) es
+    → let p = listed (run t (install k f ∷ cs)) 0 out in
+    Resumed k 0 (run t (install k f ∷ cs)) (run empty (install k f ∷ load (take (p .answer .length) (p .out)) ∷ [])) es
+restart-empty t long k f keyid source first cs goes out room es further =
+    restart t empty long (length-replicate {A = ℕ} tableLength 0) k f keyid source 0 first (empty-installs t k f 0 first) cs goes [] tt refl out room .1 es further

@@ -28,7 +28,7 @@ use Rattle.format.proofs.Room.{read-room, payload-most, number-small}
 use Rattle.message.specs.Sealing.{right, opened}
 use Rattle.slots.specs.Table.{slotOf, csOf, keyIdLengthOf, sourceLengthOf, entryOf, settled, replaced, emptySlot, slotLength, slotCount, keyIdRoom, sourceRoom, occupiedAt, keyDataOf}
 use Rattle.slots.specs.Record.{undamaged}
-use Rattle.slots.proofs.Settled.{settled-keys, settledSlot, length-slot, as-replaced, entry-settled}
+use Rattle.slots.proofs.Settled.{Around, settled-keys, settledSlot, length-slot, as-replaced, slot-around, entry-settled}
 use Rattle.slots.proofs.Slots.{slot-length}
 use Rattle.lookup.specs.Lookup.{leadsTo}
 use Rattle.lookup.specs.declared.Found.{Found}
@@ -63,6 +63,7 @@ module _ (b : Beginning) (i : ℕ) (t : List ℕ) (past : List Told) where
     pub stands : Stands b i next (w ∷ past)
     pub takes : (x : Message) → countedOf w ≡ one x → entryOf (slotOf next i) ≡ taken (entryOf (slotOf t i)) (x .number) (x .payload)
     pub untouched : countedOf w ≡ nothing → slotOf next i ≡ slotOf t i
+    pub around : Around (slotOf t i) (slotOf next i)
 
   -- the same of an arrival, and what it writes
   pub record Meets (m source out : List ℕ) (w : Told) (r : Received) : Type 0 where
@@ -89,6 +90,7 @@ module _ {b : Beginning} {i : ℕ} {t : List ℕ} {past : List Told} (now : Stan
         stands = record { held = h; agrees = rw same (still-agrees (now .agrees) w none) };
         takes = λ x e. cc;
         untouched = λ z. same;
+        around = rw same (record { front = refl; rest = refl });
       }
 
   refusing : (w : Told) → countedOf w ≡ nothing → (m source out : List ℕ) (n : ℕ) → 1 ≤ n → Meets b i t past m source out w (kept t out n)
@@ -156,6 +158,7 @@ module _ {b : Beginning} {i : ℕ} {t : List ℕ} {past : List Told} (now : Stan
                   let same : message ≡ x = cc in
                   subst (λ (y : Message). entryOf (slotOf (settled t i next) i) ≡ taken entry (y .number) (y .payload)) same moved;
               untouched = λ z. cc;
+              around = slot-around t i next (held .long) (held-small held);
             };
             writes =
                 λ y e g other.

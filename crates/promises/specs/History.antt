@@ -21,7 +21,7 @@ use Rattle.lookup.specs.Lookup.{leadsTo}
 use Rattle.lookup.specs.declared.Found.the-variants.{At}
 use Rattle.loading.specs.Form.{Listing, listingIn}
 use Rattle.gateway.specs.Receive.{Received}
-use Rattle.promises.specs.Calls.{Call, arrival, install, remove, load, OfBytes, called, results, isDone}
+use Rattle.promises.specs.Calls.{Call, arrival, install, remove, load, OfBytes, called, run, results, isDone}
 use Rattle.promises.specs.Counted.{Beginning, Message, Told, apart, below, used, forged, new, messages, numbersOf, numbers, isIn, highestSince, isOf, told}
 
 -- ---- where a history begins in a table
@@ -150,8 +150,15 @@ pub record Accounts (b : Beginning) (i : ℕ) (t : List ℕ) (past : List Told) 
 
 -- Two tables do the same for an entry in slot i: its window and totals are the same, and the next call hands out the same there; and a message of it
 -- is answered alike and leaves the same in the output.
-pub record Alike (k : KeyData) (i : ℕ) (t u : List ℕ) : Type 0 where
+pub record SameFor (k : KeyData) (i : ℕ) (t u : List ℕ) : Type 0 where
   pub entries : entryOf (slotOf t i) ≡ entryOf (slotOf u i)
   pub hands : (c : Call) → OfBytes c → handed i t c ≡ handed i u c
   pub answers : (message source out : List ℕ) → Bytes message → (h : Header) → readOf message ≡ Read h → isOf k h message source ≡ true
       → let a = called t (arrival message source out) in let b = called u (arrival message source out) in (a .answer ≡ b .answer) × (a .out ≡ b .out)
+
+-- A gateway with table u resumes what one with table t would have gone on with: further calls that do not end the entry's history there do not end it here,
+-- after them both do the same for the entry, and what they handed out at it is the same.
+pub record Resumed (k : KeyData) (i : ℕ) (t u : List ℕ) (es : List Call) : Type 0 where
+  pub goes : GoesOn i u es
+  pub same : SameFor k i (run t es) (run u es)
+  pub hands : handedBy i [] es (results t es) ≡ handedBy i [] es (results u es)

@@ -3,7 +3,7 @@ use answers::OUTPUT;
 use libc::STDIN_FILENO;
 use slots::layout::TABLE;
 
-// One byte more than a listing may be printed with, so that a longer text is seen to be so.
+// One byte more than the output that a listing is printed into, so that a longer text is not taken for a listing.
 const ROOM: usize = OUTPUT + 1;
 
 fn main() {

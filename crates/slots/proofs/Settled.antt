@@ -3,11 +3,11 @@
 use mathlib.Core.Path.{_≡_, sym, ap, _∙_}
 use mathlib.Core.List.{List, [], _∷_, _++_, map, append-assoc, append-nil}
 use mathlib.Core.Logic.{inl}
-use Prim.Native.Nat.{ℕ, _+_, _-_, _*_, _≤_, _<_}
+use Prim.Native.Nat.{ℕ, _+_, _-_, _*_, _^_, _≤_, _<_}
 use native.Mathlib.Omega.{arith}
 use lib.Dec.{lit≤}
 use lib.ListN.{length, getD, take, drop, length-append, length-drop, take-append-drop}
-use lib.Seq.{getD-drop, length-take-le, take-add, drop-drop}
+use lib.Seq.{getD-drop, length-take-le, take-add, take-at, drop-at, drop-drop}
 use Rattle.octets.specs.Octets.{Bytes, bigEndian, bytesOf, part, put}
 use Rattle.octets.proofs.BigEndian.{length-bytes, bytes-number, bytes-drop}
 use Rattle.octets.proofs.Parts.{number-same, put-below, part-other, put-within}
@@ -37,7 +37,25 @@ pub record SameKeys (s other : List ℕ) : Type 0 where
 pub same-keydata : {s other : List ℕ} → SameKeys s other → keyDataOf other ≡ keyDataOf s
 same-keydata same = key-data-is (same .flag) (same .keyid) (same .source) (same .cs) (same .edition) (same .key)
 
+-- the same bytes around window and totals
+pub record Around (s other : List ℕ) : Type 0 where
+  pub front : take highestAt other ≡ take highestAt s
+  pub rest : drop replaysAt other ≡ drop replaysAt s
+
 -- ---- a slot
+
+-- numbers that fit into their places, as those of an undamaged entry do
+pub record Fits (e : Entry) : Type 0 where
+  pub highest : e .window .highest < 2 ^ 64
+  pub marks : e .window .marks < 2 ^ 256
+  pub accepted : e .accepted < 2 ^ 64
+  pub bytes : e .bytes < 2 ^ 64
+
+undamaged-fits : {e : Entry} → UndamagedEntry e → Fits e
+undamaged-fits {e} w =
+    let u = undamaged-facts (e .window) (w .window) in
+    let t = totals-small e w in
+    record { highest = omega (arith, u .high); marks = marks-small u; accepted = omega (arith, t .0); bytes = omega (arith, t .1) }
 
 -- four stretches in a row, written into a list, and what they leave of it before and behind them
 row-of-four : (s a b c d : List ℕ) (at n : ℕ) → length (a ++ b ++ c ++ d) ≡ n
@@ -82,6 +100,15 @@ module _ (s : List ℕ) (e : Entry) (long : length s ≡ slotLength) where
   same-number at n h =
       number-same n (drop at now) (drop at s) (λ i l. getD-drop at now i 0 ∙ byte (at + i) (omega arith) ∙ sym (getD-drop at s i 0))
 
+  settled-around : Around s now
+  settled-around =
+      let before : length (take highestAt s) ≡ highestAt = length-take-le highestAt s (rw long (lit≤ tt)) in
+      let until : length (take highestAt s ++ historyBytes e) ≡ replaysAt = rw (length-append, before, length-history) in
+      record {
+        front = ap (take highestAt) (append-assoc (take highestAt s) (historyBytes e) (drop (highestAt + length (historyBytes e)) s)) ∙ take-at (take highestAt s) (historyBytes e ++ drop (highestAt + length (historyBytes e)) s) highestAt before;
+        rest = drop-at (take highestAt s ++ historyBytes e) (drop (highestAt + length (historyBytes e)) s) replaysAt until ∙ rw length-history;
+      }
+
   -- the stretches that it is made of, and their lengths
   abbrev stretches : List (List ℕ)
   stretches =
@@ -101,17 +128,15 @@ module _ (s : List ℕ) (e : Entry) (long : length s ≡ slotLength) where
   there : (j : ℕ) → Lies now (ahead lengths j) (getD stretches j [])
   there j = rw in-stretches (lies stretches lengths of-lengths j)
 
-  settled-entry : UndamagedEntry e → windowOf s .frame ≡ e .window .frame → entryOf now ≡ e
-  settled-entry w frame =
-      let u = undamaged-facts (e .window) (w .window) in
-      let t = totals-small e w in
+  settled-entry : Fits e → windowOf s .frame ≡ e .window .frame → entryOf now ≡ e
+  settled-entry fits frame =
       rw (
         same-number sizeAt 8 (lit≤ tt),
         same-number startAt 8 (lit≤ tt),
-        number 8 (e .window .highest) (there 1) (omega (arith, u .high)),
-        number 32 (e .window .marks) (there 2) (marks-small u),
-        number 8 (e .accepted) (there 3) (omega arith),
-        number 8 (e .bytes) (there 4) (omega arith),
+        number 8 (e .window .highest) (there 1) (fits .highest),
+        number 32 (e .window .marks) (there 2) (fits .marks),
+        number 8 (e .accepted) (there 3) (fits .accepted),
+        number 8 (e .bytes) (there 4) (fits .bytes),
       )
       (ap (λ (f : Frame). record { window = record { frame = f; highest = e .window .highest; marks = e .window .marks }; accepted = e .accepted; bytes = e .bytes }) frame)
 
@@ -130,9 +155,9 @@ module _ (s other : List ℕ) (long : length s ≡ slotLength) (b : Bytes s) whe
       rw (number-bytes highestAt 8 (lit≤ tt), number-bytes marksAt 32 (lit≤ tt), number-bytes acceptedAt 8 (lit≤ tt), number-bytes bytesAt 8 (lit≤ tt))
       (rw (drop-drop 8 highestAt s, drop-drop 40 highestAt s, drop-drop 48 highestAt s) at (one-stretch (drop highestAt s) 8 32 8 8))
 
-  pub same-around : take highestAt other ≡ take highestAt s → drop replaysAt other ≡ drop replaysAt s → put other highestAt (historyBytes (entryOf s)) ≡ s
-  same-around front rest =
-      rw (length-history s (entryOf s) long, history-bytes, front, rest, ← take-add highestAt (replaysAt - highestAt) s) (take-append-drop replaysAt s)
+  pub same-around : Around s other → put other highestAt (historyBytes (entryOf s)) ≡ s
+  same-around a =
+      rw (length-history s (entryOf s) long, history-bytes, a .front, a .rest, ← take-add highestAt (replaysAt - highestAt) s) (take-append-drop replaysAt s)
 
 -- ---- a table
 
@@ -151,5 +176,11 @@ module _ (t : List ℕ) (i : ℕ) (e : Entry) (long : length t ≡ tableLength) 
   pub slot-settled : slotOf (settled t i e) i ≡ settledSlot
   slot-settled = rw as-replaced (slot-own t i settledSlot long small length-slot)
 
+  pub slot-around : Around (slotOf t i) (slotOf (settled t i e) i)
+  slot-around = rw slot-settled (settled-around (slotOf t i) e (slot-length t i long small))
+
+  pub entry-written : Fits e → windowOf (slotOf t i) .frame ≡ e .window .frame → entryOf (slotOf (settled t i e) i) ≡ e
+  entry-written fits frame = ap entryOf slot-settled ∙ settled-entry (slotOf t i) e (slot-length t i long small) fits frame
+
   pub entry-settled : UndamagedEntry e → windowOf (slotOf t i) .frame ≡ e .window .frame → entryOf (slotOf (settled t i e) i) ≡ e
-  entry-settled unharmed frame = ap entryOf slot-settled ∙ settled-entry (slotOf t i) e (slot-length t i long small) unharmed frame
+  entry-settled unharmed = entry-written (undamaged-fits unharmed)

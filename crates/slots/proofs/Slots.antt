@@ -13,9 +13,12 @@ use Rattle.octets.specs.Octets.{bigEndian, part}
 use Rattle.octets.proofs.Parts.{length-part, part-at, part-part, number-in-part}
 use Rattle.slots.specs.Table.{slotOf, occupied, slotLength, slotCount, tableLength}
 
+-- a slot as it is lent, from its first byte to the next slot's
+abbrev pub lent : List ℕ → ℕ → List ℕ
+lent t i = take (slotLength * i + slotLength - slotLength * i) (drop (slotLength * i) t)
+
 module _ (t : List ℕ) (i : ℕ) where
-  -- a slot as it is lent, from its first byte to the next slot's
-  pub slot-lent : take (slotLength * i + slotLength - slotLength * i) (drop (slotLength * i) t) ≡ slotOf t i
+  pub slot-lent : lent t i ≡ slotOf t i
   slot-lent = let e : slotLength * i + slotLength - slotLength * i ≡ slotLength = omega arith in ap (λ (n : ℕ). take n (drop (slotLength * i) t)) e
 
   pub slot-byte : (k : ℕ) → k < slotLength → getD (slotOf t i) k 0 ≡ getD t (slotLength * i + k) 0

@@ -1,5 +1,6 @@
 pub mod ByteLines
 pub mod Decimals
+pub mod Determined
 pub mod Hex
 pub mod Lines
 pub mod PrintedRead

@@ -47,9 +47,6 @@ pub record Follows (x c : ℕ) : Type 0 where
 pub digit : (c : ℕ) → isDigit c ≡ true → (48 ≤ c) × (c ≤ 57)
 digit c e = (leb-true 48 c (and-left (leb 48 c) (leb c 57) e), leb-true c 57 (and-right (leb 48 c) (leb c 57) e))
 
-not-is : (b : Bool) → not b ≡ true → b ≡ false
-not-is = not-true
-
 pub followed : (x c : ℕ) → isDigit c ≡ true → (x ≡ 0 → ⊥) → x * 10 + (c - 48) ≤ greatestDecimal → true ≡ mayFollow x c
 followed x c d n h = sym (rw (d, ne-eqb x 0 n, le-leb (x * 10 + (c - 48)) greatestDecimal h))
 
@@ -59,7 +56,7 @@ follows x c e =
     let d = digit c (and-left (isDigit c) (not (eqb x 0)) front) in record {
       low = d .0;
       high = d .1;
-      more = eqb-false x 0 (not-is (eqb x 0) (and-right (isDigit c) (not (eqb x 0)) front));
+      more = eqb-false x 0 (not-true (eqb x 0) (and-right (isDigit c) (not (eqb x 0)) front));
       fits = leb-true _ _ (and-right (isDigit c && not (eqb x 0)) (leb (x * 10 + (c - 48)) greatestDecimal) e);
     }
 

@@ -11,7 +11,7 @@ use lib.ListN.{length, take, drop, take-append-drop}
 use lib.Seq.{append-snoc, take-all}
 use Rattle.numbers.proofs.Tests.{and-left, and-right}
 use Rattle.octets.specs.Octets.{Bytes, bigEndian, bytesOf, same}
-use Rattle.octets.proofs.BigEndian.{bytes-number}
+use Rattle.octets.proofs.BigEndian.{bytes-number, number-lt}
 use Rattle.octets.proofs.Same.{same-true}
 use Rattle.text.specs.Text.{decimalOf, glyph, hexOf, decimalLine, hexLine}
 use Rattle.text.proofs.Decimals.{small, next-digit}
@@ -231,3 +231,11 @@ number-back name l rest n x e =
     let a = through (readBytesLine name n l) _ x rest e in
     subst (λ (y : ℕ). l ≡ hexLine name (bytesOf n y) ++ rest) (got-value (a .next))
     (subst (λ (m : List ℕ). l ≡ hexLine name (bytesOf n (bigEndian n (a .value))) ++ m) (got-rest (a .next)) (bytes-back name l (a .left) n (a .value) (a .is)))
+
+-- and small
+pub number-small : (name l rest : List ℕ) (n x : ℕ) → readNumberLine name n l ≡ got x rest → x < 2 ^ (8 * n)
+unfolding readNumberLine
+number-small name l rest n x e =
+    let a = through (readBytesLine name n l) _ x rest e in
+    let bytes = hex-line-back name l (a .left) (a .value) (bytes-line-back name l (a .left) n (a .value) (a .is) .0) .1 in
+    subst (λ (y : ℕ). y < 2 ^ (8 * n)) (got-value (a .next)) (number-lt n (a .value) bytes)

@@ -2,7 +2,7 @@
 -- digits. A line that is not in its form is Bad; else the answer has the value, and the place behind the line.
 use mathlib.Core.Path.{_≡_}
 use mathlib.Core.List.{List, [], _∷_, _++_}
-use Prim.Native.Nat.{ℕ, zero, suc, _+_, _*_, _≤_, _<_}
+use Prim.Native.Nat.{ℕ, zero, suc, _+_, _*_, _≤_}
 use lib.ListN.{length, getD, drop}
 use Rattle.text.specs.Reading.{Read, failed, got, valueOf}
 use Rattle.text.specs.declared.reading.Hex.{Hex}
@@ -33,5 +33,5 @@ FindsNumber text read (number.Is x next) = (read ≡ got x (drop next text)) × 
 FindsNumber text read number.Bad = read ≡ failed
 
 abbrev pub FindsSpan : List ℕ → Read (List ℕ) → Span → Type 0
-FindsSpan text read (span.Is hex next) = (read ≡ got (bytesIn text hex) (drop next text)) × (next ≤ length text) × (hex .at + 2 * hex .count < next)
+FindsSpan text read (span.Is hex next) = (read ≡ got (bytesIn text hex) (drop next text)) × (next ≤ length text) × (hex .at + 2 * hex .count + 1 ≡ next)
 FindsSpan text read span.Bad = read ≡ failed

@@ -7,7 +7,7 @@ use lib.Dec.{eqb, leb}
 use lib.ListN.{length, take, drop}
 use Rattle.octets.specs.Octets.{bigEndian, same}
 
--- what comes of reading: a value, and the text that is left behind it; or nothing, where the text is not in the form asked for
+-- what comes of reading: a value, and the text that follows it; or nothing, where the text is not in the form asked for
 pub data Read (A : Type 0) : Type 0 where
   failed : Read A
   got : A → List ℕ → Read A

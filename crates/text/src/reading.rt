@@ -47,7 +47,7 @@ pub fn decimal_line(name: &[u8], text: &[u8], at: usize) -> Number
     if !is_digit(c) {
         return Number::Bad;
     }
-    digits(text, first + 1, (c - 48) as u64)
+    digits(text, first + 1, (c - b'0') as u64)
 }
 
 // A name, bytes in hex and a line feed.
@@ -131,11 +131,11 @@ fn pair(text: &[u8], at: usize) -> u64
 fn value(c: u8) -> u64
     ensures { λ r. ⌜ (r ≡ valueOf c) × (r < 256) ⌝ }
 {
-    if c <= 57 {
-        if c < 48 {
+    if c <= b'9' {
+        if c < b'0' {
             return 0;
         }
-        return (c - 48) as u64;
+        return (c - b'0') as u64;
     }
     if c < 87 {
         return 0;
@@ -171,7 +171,7 @@ fn digits(text: &[u8], at: usize, first: u64) -> Number
         if !may_follow(number, c) {
             return Number::Bad;
         }
-        number = number * 10 + ((c - 48) as u64);
+        number = number * 10 + ((c - b'0') as u64);
     }
     Number::Bad
 }
@@ -189,7 +189,7 @@ fn may_follow(number: u64, c: u8) -> bool
     if TENTH < number {
         return false;
     }
-    if GREATEST - number * 10 < ((c - 48) as u64) {
+    if GREATEST - number * 10 < ((c - b'0') as u64) {
         return false;
     }
     true
@@ -199,10 +199,10 @@ fn may_follow(number: u64, c: u8) -> bool
 fn is_digit(c: u8) -> bool
     ensures { λ r. ⌜ r ≡ isDigit c ⌝ }
 {
-    if c < 48 {
+    if c < b'0' {
         return false;
     }
-    c <= 57
+    c <= b'9'
 }
 
 // Digits in hex, two a byte, up to the line feed.
@@ -244,8 +244,8 @@ fn is_hex(c: u8) -> bool
     if is_digit(c) {
         return true;
     }
-    if c < 97 {
+    if c < b'a' {
         return false;
     }
-    c <= 102
+    c <= b'f'
 }

@@ -24,12 +24,12 @@ returns-2 : tie.Need-returns-2
 returns-2 c =
     let a = c .before .before .before .before .before .before .args in
     other-terms (settledValues (a .text .now) (a .named) (a .terms)) (a .slot .now) (named (c .before .before))
-    (sym (c .before .settled-so .ensures) ∙ not-true (c .before .settled-so .result) (c .if2 .taken))
+    (sym (c .before .terms-so .ensures) ∙ not-true (c .before .terms-so .result) (c .if2 .taken))
 
 returns-3 : tie.Need-returns-3
 returns-3 c =
     let a = c .before .before .before .before .before .before .before .args in
-    let s = c .before .before .settled-so in
+    let s = c .before .before .terms-so in
     ap (λ (n : ℕ). eqb n 0) (c .read .ensures .0)
     ∙ by-total (settledValues (a .text .now) (a .named) (a .terms)) (a .slot .now) (named (c .before .before .before)) (sym (s .ensures) ∙ not-false (s .result) (c .before .if2 .left))
 

@@ -1,11 +1,11 @@
--- `loading::taking::settled_so` meets its contract: each refusal denies one fact, and the start decides at the end. Assumes nothing.
+-- `loading::taking::terms_so` meets its contract: each refusal denies one fact, and the start decides at the end. Assumes nothing.
 use mathlib.Core.Path.{sym, ap, _∙_}
 use Prim.Native.Nat.{ℕ}
 use borrow.Author.Needs.{needs}
 use lib.Dec.{eqb}
-use Rattle.loading.proofs.Standing.{by-start, not-settled}
-use Rattle.loading.proofs.taking.settled_so.Statement.{statement}
-use Rattle.loading.proofs.taking.settled_so.Tie as tie
+use Rattle.loading.proofs.Standing.{by-start, not-terms}
+use Rattle.loading.proofs.taking.terms_so.Statement.{statement}
+use Rattle.loading.proofs.taking.terms_so.Tie as tie
 
 returns-4 : tie.Need-returns-4
 returns-4 c =
@@ -17,17 +17,17 @@ returns-4 c =
     (sym (e .before .before .before .before .before .before .wide2 .ensures .0) ∙ e .before .before .before .before .if2 .left)
     (sym (e .before .before .read .ensures .0) ∙ e .if3 .left)
 
-pub settled-so-spec : {M : Type 1} → statement M
-settled-so-spec =
+pub terms-so-spec : {M : Type 1} → statement M
+terms-so-spec =
     tie.close
     (tie.spec
     (λ c. search needs)
     (λ c κs. search needs)
-    (λ c. not-settled _ _ (λ m. c .if1 .taken (c .before .before .wide .ensures .0 ∙ m .suite-same)))
+    (λ c. not-terms _ _ (λ m. c .if1 .taken (c .before .before .wide .ensures .0 ∙ m .suite-same)))
     (λ c. search needs)
     (λ c κs. search needs)
-    (λ c. not-settled _ _ (λ m. c .if2 .taken (c .before .before .wide2 .ensures .0 ∙ m .edition-same)))
+    (λ c. not-terms _ _ (λ m. c .if2 .taken (c .before .before .wide2 .ensures .0 ∙ m .edition-same)))
     (λ c κs. search needs)
-    (λ c. not-settled _ _ (λ m. c .if3 .taken (c .before .before .read .ensures .0 ∙ m .size-same)))
+    (λ c. not-terms _ _ (λ m. c .if3 .taken (c .before .before .read .ensures .0 ∙ m .size-same)))
     (λ c κs. search needs)
     returns-4)
