@@ -4,14 +4,13 @@ use mathlib.Core.Path.{_≡_, refl, sym, ap, _∙_}
 use mathlib.Core.Bool.{true, false, and-false}
 use mathlib.Core.List.{List}
 use mathlib.Core.Option.{none, some}
-use Prim.Native.Nat.{ℕ, _+_, _*_, _-_, _≤_, _<_}
+use Prim.Native.Nat.{ℕ, _≤_, _<_}
 use borrow.Author.Tests.{lt-ltb, le-ltb}
-use lib.ListN.{take, drop}
 use Rattle.answers.specs.Answers.{refused, badText, notStanding, wouldBeDamaged}
 use Rattle.answers.specs.declared.Answer.{Answer}
 use Rattle.format.specs.KeyData.{soundOf}
 use Rattle.window.specs.Entry.{undamagedEntry}
-use Rattle.slots.specs.Table.{slotOf, keyDataOf, settled, slotLength, slotCount}
+use Rattle.slots.specs.Table.{slotOf, keyDataOf, settled, slotCount}
 use Rattle.slots.proofs.Slots.{lent, slot-lent}
 use Rattle.entries.specs.Install.{IsLeft, doneAt}
 use Rattle.loading.specs.Form.{Listing, listingIn}

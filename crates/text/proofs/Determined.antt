@@ -2,12 +2,11 @@
 -- Assumes nothing.
 use mathlib.Core.Path.{_≡_, refl, sym, ap, ap₂, _∙_}
 use mathlib.Core.List.{List}
-use Prim.Native.Nat.{ℕ, _+_, _*_, _≤_}
+use Prim.Native.Nat.{ℕ, _≤_}
 use native.Mathlib.Omega.{arith}
 use lib.ListN.{length, drop, length-drop}
-use Rattle.text.specs.Reading.{Read, got}
-use Rattle.text.specs.Found.{bytesIn, FindsNumber, FindsSpan}
-use Rattle.text.specs.declared.reading.Hex.{Hex}
+use Rattle.text.specs.Reading.{Read}
+use Rattle.text.specs.Found.{FindsNumber, FindsSpan}
 use Rattle.text.specs.declared.reading.Number.{Number}
 use Rattle.text.specs.declared.reading.Number.the-variants as number
 use Rattle.text.specs.declared.reading.Span.{Span}
