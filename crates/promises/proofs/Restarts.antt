@@ -348,11 +348,11 @@ module _ (t u : List ℕ) (tl : length t ≡ tableLength) (ul : length u ≡ tab
     (i : ℕ) (first : installed t k f .answer ≡ doneAt i) (second : installed u k f .answer ≡ doneAt i)
     (cs : List Call) (goes : GoesOn i (after t (install k f)) cs) (ds : List Call) (on : GoesOn i (after u (install k f)) ds) (none : counted (fresh k f) ds ≡ [])
     (out : List ℕ) (room : outputRoom ≤ length out) where
-  abbrev stopped : List ℕ
-  stopped = run t (install k f ∷ cs)
+  abbrev lasting : List ℕ
+  lasting = run t (install k f ∷ cs)
 
   abbrev print : List ℕ
-  print = let p = listed stopped i out in take (p .answer .length) (p .out)
+  print = let p = listed lasting i out in take (p .answer .length) (p .out)
 
   abbrev resumed : List ℕ
   resumed = after (run u (install k f ∷ ds)) (load print)
@@ -363,20 +363,20 @@ module _ (t u : List ℕ) (tl : length t ≡ tableLength) (ul : length u ≡ tab
   again : Begins (fresh k f) i (after u (install k f))
   again = install-begins u ul k f keyid i second
 
-  is-print : listingOf i (slotOf stopped i) ≡ print
-  is-print = sym (rw (prints begins keyid source cs goes out room) (taken-back out (listingOf i (slotOf stopped i))))
+  is-print : listingOf i (slotOf lasting i) ≡ print
+  is-print = sym (rw (prints begins keyid source cs goes out room) (taken-back out (listingOf i (slotOf lasting i))))
 
   -- The load is answered with the slot. Then, after any further calls that do not end the entry's history in the gateway that never stopped, its replies,
   -- payloads and totals are the same in both.
-  pub restart : (loaded (run u (install k f ∷ ds)) print .answer ≡ doneAt i) × ((es : List Call) → GoesOn i stopped es → Resumed k i stopped resumed es)
+  pub restart : (loaded (run u (install k f ∷ ds)) print .answer ≡ doneAt i) × ((es : List Call) → GoesOn i lasting es → Resumed k i lasting resumed es)
   restart =
-      subst (λ (x : List ℕ). (loaded (run u (install k f ∷ ds)) x .answer ≡ doneAt i) × ((es : List Call) → GoesOn i stopped es → Resumed k i stopped (after (run u (install k f ∷ ds)) (load x)) es)) is-print
+      subst (λ (x : List ℕ). (loaded (run u (install k f ∷ ds)) x .answer ≡ doneAt i) × ((es : List Call) → GoesOn i lasting es → Resumed k i lasting (after (run u (install k f ∷ ds)) (load x)) es)) is-print
       (ap (λ (z : Left). z .answer) (reloads begins keyid source cs goes again ds on none), restarted begins keyid source cs goes again ds on none)
 
   -- And the slot is, byte for byte, the one that was printed.
-  pub restart-bytes : Bytes (slotOf stopped i) → slotOf resumed i ≡ slotOf stopped i
+  pub restart-bytes : Bytes (slotOf lasting i) → slotOf resumed i ≡ slotOf lasting i
   restart-bytes bytes =
-      let s = slotOf stopped i in
+      let s = slotOf lasting i in
       let v = run u (install k f ∷ ds) in
       let now = stands-on (begun begins) cs goes in
       let waits = stands-on (begun again) ds on in
@@ -390,7 +390,7 @@ module _ (t u : List ℕ) (tl : length t ≡ tableLength) (ul : length u ≡ tab
       } in
       let is = subst (λ (x : List ℕ). loaded v x ≡ record { answer = doneAt i; table = settled v i (entryOf s) }) is-print (reloads begins keyid source cs goes again ds on none) in
       ap (λ (z : Left). slotOf (z .table) i) is ∙ slot-settled v i (entryOf s) (waits .held .long) small
-      ∙ same-around s (slotOf v i) (slot-length stopped i (now .held .long) small) bytes around
+      ∙ same-around s (slotOf v i) (slot-length lasting i (now .held .long) small) bytes around
 
 -- An empty table answers slot 0 to every install that is answered 0 elsewhere,
 abbrev empty : List ℕ
