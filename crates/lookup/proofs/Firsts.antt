@@ -1,40 +1,42 @@
 -- The lowest slot that passes a test: a turn and the ends of a loop that looks for it, and what the answer says.
 -- Assumes nothing.
 use mathlib.Core.Path.{_≡_, refl, sym, ap, _∙_}
-use mathlib.Core.Bool.{Bool, true, false, cond, not, not-eq-not, true≢false}
+use mathlib.Core.Bool.{Bool, true, false, cond, not, _&&_, not-eq-not, true≢false}
 use mathlib.Core.List.{List}
 use Prim.Native.Nat.{ℕ, zero, suc, _+_, _-_, _≤_, _<_}
 use native.Mathlib.Decide.{decLt, ℕ-discrete}
 use native.Mathlib.Numerals.{add-one}
 use native.Mathlib.Omega.{arith}
-use borrow.Author.Tests.{not-true}
+use borrow.Author.Tests.{eq-eqb, ne-eqb, not-true}
+use lib.Dec.{eqb}
 use Rattle.slots.specs.Table.{slotOf, occupied, slotCount}
-use Rattle.lookup.specs.Lookup.{matches, firstFrom, leadsTo, firstFree}
+use Rattle.lookup.specs.Lookup.{matches, firstFrom, leadsTo, leadsElsewhere, firstFree}
+use Rattle.lookup.specs.declared.Found.{Found}
 use Rattle.lookup.specs.declared.Found.the-variants.{At, Nothing}
 
 module _ (test : ℕ → Bool) where
-  -- a loop through the sixteen slots: it finds one, goes on, and ends
-  pub here : (i : ℕ) → i < slotCount → test i ≡ true → firstFrom test (slotCount - i) i ≡ At i
-  here i h passes = let more : slotCount - i ≡ suc (slotCount - 1 - i) = omega arith in rw (more, passes)
+  -- a loop through the slots below an end: it finds one, goes on, and ends
+  pub here : (end i : ℕ) → i < end → test i ≡ true → firstFrom test (end - i) i ≡ At i
+  here end i h passes = let more : end - i ≡ suc (end - 1 - i) = omega arith in rw (more, passes)
 
-  pub further : (i : ℕ) → i < slotCount → test i ≡ false → firstFrom test (slotCount - i) i ≡ firstFrom test (slotCount - (i + 1)) (i + 1)
-  further i h fails =
-      let more : slotCount - i ≡ suc (slotCount - 1 - i) = omega arith in
-      let less : slotCount - (i + 1) ≡ slotCount - 1 - i = omega arith in
+  pub further : (end i : ℕ) → i < end → test i ≡ false → firstFrom test (end - i) i ≡ firstFrom test (end - (i + 1)) (i + 1)
+  further end i h fails =
+      let more : end - i ≡ suc (end - 1 - i) = omega arith in
+      let less : end - (i + 1) ≡ end - 1 - i = omega arith in
       rw (more, fails, less, add-one)
 
-  pub nowhere : (i : ℕ) → slotCount ≤ i → firstFrom test (slotCount - i) i ≡ Nothing
-  nowhere i h = let none : slotCount - i ≡ 0 = omega arith in rw none
+  pub nowhere : (end i : ℕ) → end ≤ i → firstFrom test (end - i) i ≡ Nothing
+  nowhere end i h = let none : end - i ≡ 0 = omega arith in rw none
 
   -- what is found lies among those looked at, and passes
-  pub found : (n i j : ℕ) → firstFrom test n i ≡ At j → (j < i + n) × (test j ≡ true)
+  pub found : (n i j : ℕ) → firstFrom test n i ≡ At j → (j < i + n) × (test j ≡ true) × (i ≤ j)
   found zero i j e = let z : _≡_ {A = ℕ} 0 1 = cc in absurd (omega arith)
   found (suc n) i j e = by (test i) refl e (found n (suc i) j)
     where
       by : (b : Bool) → test i ≡ b → cond b (At i) (firstFrom test n (suc i)) ≡ At j
-          → (firstFrom test n (suc i) ≡ At j → (j < suc i + n) × (test j ≡ true)) → (j < i + suc n) × (test j ≡ true)
-      by true p e later = let same : i ≡ j = cc in (omega arith, rw same at p)
-      by false p e later = let l = later e in (omega arith, l .1)
+          → (firstFrom test n (suc i) ≡ At j → (j < suc i + n) × (test j ≡ true) × (suc i ≤ j)) → (j < i + suc n) × (test j ≡ true) × (i ≤ j)
+      by true p e later = let same : i ≡ j = cc in (omega arith, rw same at p, omega arith)
+      by false p e later = let l = later e in (omega arith, l .1, omega (arith, l .2))
 
   -- a slot that passes is found, or one below it
   pub reached : (n i k : ℕ) → i ≤ k → k < i + n → test k ≡ true → (j : ℕ) × (firstFrom test n i ≡ At j) × (j ≤ k)
@@ -61,13 +63,18 @@ module _ (test : ℕ → Bool) where
       let z : _≡_ {A = ℕ} 0 1 = cc in
       omega arith)
 
-  -- what is found among all slots is the lowest that passes, and the lowest that passes is found
-  pub lower : (i : ℕ) → firstFrom test slotCount 0 ≡ At i → (j : ℕ) → j < i → test j ≡ false
-  lower i e j l =
-      let small = found slotCount 0 i e .0 in
+  -- and where none passes, nothing is found
+  all-fail : (n i : ℕ) → ((j : ℕ) → i ≤ j → j < i + n → test j ≡ false) → firstFrom test n i ≡ Nothing
+  all-fail zero i fail = refl
+  all-fail (suc n) i fail = rw (fail i (omega arith) (omega arith)) (all-fail n (suc i) (λ j a b. fail j (omega arith) (omega arith)))
+
+  -- what is found is the lowest that passes, and the lowest that passes is found
+  pub lower : (n from i : ℕ) → firstFrom test n from ≡ At i → (j : ℕ) → from ≤ j → j < i → test j ≡ false
+  lower n from i e j a l =
+      let small = found n from i e .0 in
       not-eq-not .0
       (λ passes.
-      let r = reached slotCount 0 j (omega arith) (omega arith) passes in
+      let r = reached n from j a (omega arith) passes in
       let same : r .0 ≡ i = cc in
       omega (arith, r .2))
 
@@ -80,12 +87,46 @@ module _ (test : ℕ → Bool) where
       by j e l p (yes same) = e ∙ ap At same
       by j e l p (no other) = absurd (true≢false (sym p ∙ fail j (omega arith)))
 
+-- all slots but one: those below it are looked at, then those above
+module _ (test : ℕ → Bool) (i : ℕ) where
+  abbrev others : ℕ → Bool
+  others j = not (eqb j i) && test j
+
+  other-is : (j : ℕ) → (j ≡ i → ⊥) → others j ≡ test j
+  other-is j other = simp (ne-eqb j i other)
+
+  pub found-below : i < slotCount → (j : ℕ) → firstFrom test (i - 0) 0 ≡ At j → firstFrom others slotCount 0 ≡ At j
+  found-below small j e =
+      let there = found test (i - 0) 0 j e in
+      let below : j < i = omega (arith, there .0) in
+      lowest others j (omega arith) (other-is j (λ same. omega arith) ∙ there .1)
+      (λ k l. other-is k (λ same. omega arith) ∙ lower test (i - 0) 0 j e k (omega arith) l)
+
+  pub found-above : i < slotCount → firstFrom test (i - 0) 0 ≡ Nothing → firstFrom others slotCount 0 ≡ firstFrom test (slotCount - (i + 1)) (i + 1)
+  found-above small e = by (firstFrom test (slotCount - (i + 1)) (i + 1)) refl
+    where
+      -- below the slot none passes, and the slot does not count
+      fails : (k : ℕ) → (i < k → test k ≡ false) → others k ≡ false
+      fails k above = at (ℕ-discrete k i) (decLt i k)
+        where
+          at : Dec (k ≡ i) → Dec (i < k) → others k ≡ false
+          at (yes same) d = simp (eq-eqb k i same)
+          at (no other) (yes h) = other-is k other ∙ above h
+          at (no other) (no h) = other-is k other ∙ none test (i - 0) 0 k e (omega arith) (omega arith)
+
+      by : (f : Found) → firstFrom test (slotCount - (i + 1)) (i + 1) ≡ f → firstFrom others slotCount 0 ≡ f
+      by (At j) p =
+          let there = found test (slotCount - (i + 1)) (i + 1) j p in
+          lowest others j (omega (arith, there .0)) (other-is j (λ same. omega (arith, there .2)) ∙ there .1)
+          (λ k l. fails k (λ h. lower test (slotCount - (i + 1)) (i + 1) j p k (omega arith) l))
+      by Nothing p = all-fail others slotCount 0 (λ k a l. fails k (λ h. none test (slotCount - (i + 1)) (i + 1) k p (omega arith) (omega arith)))
+
 -- a slot that one test finds is found by another that it passes, where below it nothing passes the other alone
 pub found-too : (test other : ℕ → Bool) (i : ℕ) → firstFrom test slotCount 0 ≡ At i → other i ≡ true
     → ((j : ℕ) → j < i → other j ≡ true → test j ≡ true) → firstFrom other slotCount 0 ≡ At i
 found-too test other i e passes both =
     lowest other i (found test slotCount 0 i e .0) passes
-    (λ j l. not-eq-not .0 (λ p. true≢false (sym (both j l p) ∙ lower test i e j l)))
+    (λ j l. not-eq-not .0 (λ p. true≢false (sym (both j l p) ∙ lower test slotCount 0 i e j (omega arith) l)))
 
 -- two tests that agree find the same
 pub first-same : (test other : ℕ → Bool) (n i : ℕ) → ((j : ℕ) → j < i + n → test j ≡ other j) → firstFrom test n i ≡ firstFrom other n i
@@ -106,6 +147,13 @@ module _ (t : List ℕ) (i : ℕ) where
   pub leads-nowhere : (flag : ℕ) (keyId source : List ℕ) → leadsTo t flag keyId source ≡ Nothing → i < slotCount → matches flag keyId source (slotOf t i) ≡ false
   unfolding leadsTo
   leads-nowhere flag keyId source e small = none (λ j. matches flag keyId source (slotOf t j)) slotCount 0 i e (omega arith) small
+
+  pub elsewhere-nowhere : (k flag : ℕ) (keyId source : List ℕ) → leadsElsewhere t k flag keyId source ≡ Nothing → i < slotCount → (i ≡ k → ⊥)
+      → matches flag keyId source (slotOf t i) ≡ false
+  unfolding leadsElsewhere
+  elsewhere-nowhere k flag keyId source e small other =
+      let test : ℕ → Bool = λ j. matches flag keyId source (slotOf t j) in
+      sym (other-is test k i other) ∙ none (others test k) slotCount 0 i e (omega arith) small
 
   pub free-small : firstFree t ≡ At i → i < slotCount
   unfolding firstFree

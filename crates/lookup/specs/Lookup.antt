@@ -28,6 +28,10 @@ firstFrom test (suc n) i = cond (test i) (At i) (firstFrom test n (suc i))
 unfoldable pub leadsTo : List ℕ → ℕ → List ℕ → List ℕ → Found
 leadsTo t flag keyId source = firstFrom (λ i. matches flag keyId source (slotOf t i)) slotCount 0
 
+-- the lowest that matches and is not slot i
+unfoldable pub leadsElsewhere : List ℕ → ℕ → ℕ → List ℕ → List ℕ → Found
+leadsElsewhere t i flag keyId source = firstFrom (λ j. not (eqb j i) && matches flag keyId source (slotOf t j)) slotCount 0
+
 -- the lowest free slot
 unfoldable pub firstFree : List ℕ → Found
 firstFree t = firstFrom (λ i. not (occupied (slotOf t i))) slotCount 0

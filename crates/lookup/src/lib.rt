@@ -1,8 +1,9 @@
 // Which slot of a table a message leads to, and which is free.
 ghost use mathlib.Core.Path.{_≡_};
+ghost use Prim.Native.Nat.{_-_, _<_, _≤_};
 ghost use lib.ListN.{length};
-ghost use Rattle.slots.specs.Table.{slotLength, tableLength};
-ghost use Rattle.lookup.specs.Lookup.{matches, leadsTo, firstFree};
+ghost use Rattle.slots.specs.Table.{slotLength, tableLength, slotCount, slotOf};
+ghost use Rattle.lookup.specs.Lookup.{matches, firstFrom, leadsTo, leadsElsewhere, firstFree};
 use slots::layout;
 
 pub enum Found {
@@ -15,11 +16,43 @@ pub fn leads_to(table: &[u8], flag: u8, keyid: &[u8], source: &[u8]) -> Found
     requires { ⌜ length (now table) ≡ tableLength ⌝ }
     ensures { λ r. ⌜ r ≡ leadsTo (now (table .entry)) flag (now (keyid .entry)) (now (source .entry)) ⌝ }
 {
-    let mut i: usize = 0;
-    while i < layout::SLOTS {
+    first_match(table, 0, layout::SLOTS, flag, keyid, source)
+}
+
+// The lowest of those that are not this slot.
+pub fn leads_elsewhere(
+    table: &[u8],
+    slot: usize,
+    flag: u8,
+    keyid: &[u8],
+    source: &[u8],
+) -> Found
+    requires { ⌜ (length (now table) ≡ tableLength) × (slot < slotCount) ⌝ }
+    ensures { λ r. ⌜ r ≡ leadsElsewhere (now (table .entry)) slot flag (now (keyid .entry)) (now (source .entry)) ⌝ }
+{
+    let below = first_match(table, 0, slot, flag, keyid, source);
+    let Found::Nothing = below else {
+        return below;
+    };
+    first_match(table, slot + 1, layout::SLOTS, flag, keyid, source)
+}
+
+// The lowest of those from `from` on and below `end`.
+fn first_match(
+    table: &[u8],
+    from: usize,
+    end: usize,
+    flag: u8,
+    keyid: &[u8],
+    source: &[u8],
+) -> Found
+    requires { ⌜ (length (now table) ≡ tableLength) × (end ≤ slotCount) ⌝ }
+    ensures { λ r. ⌜ r ≡ firstFrom (λ i. matches flag (now (keyid .entry)) (now (source .entry)) (slotOf (now (table .entry)) i)) (end - from) from ⌝ }
+{
+    let mut i = from;
+    while i < end {
         let at = layout::SLOT * i;
-        let end = at + layout::SLOT;
-        if agrees(&table[at..end], flag, keyid, source) {
+        if agrees(&table[at..at + layout::SLOT], flag, keyid, source) {
             return Found::At(i);
         }
         i += 1;

@@ -1,61 +1,12 @@
--- `lookup::leads_to` meets its contract. The loop's invariant: the slots that are left decide. Assumes nothing.
-use mathlib.Core.Path.{_≡_, refl, sym, _∙_}
-use Prim.Native.Nat.{_-_, _≤_}
-use native.Mathlib.Nat.{add-sub-cancel-left}
-use native.Mathlib.Omega.{arith}
+-- `lookup::leads_to` meets its contract: it is the lowest of all slots that match. Assumes nothing.
 use borrow.Author.Needs.{needs}
-use Rattle.slots.specs.Table.{slotOf, slotCount}
-use Rattle.lookup.specs.Lookup.{matches, firstFrom, leadsTo}
-use Rattle.lookup.proofs.Firsts.{here, further, nowhere}
-use Rattle.slots.proofs.Slots.{slot-length}
+use Rattle.lookup.specs.Lookup.{leadsTo}
 use Rattle.lookup.proofs.leads_to.Statement.{statement}
 use Rattle.lookup.proofs.leads_to.Tie as tie
 
-abbrev Inv-loop : tie.InvT-loop
-Inv-loop table flag keyid source i₀ i =
-    (i ≤ slotCount) × (leadsTo table flag keyid source ≡ firstFrom (λ j. matches flag keyid source (slotOf table j)) (slotCount - i) i)
-
-abbrev μ-loop : tie.MeasureT-loop
-μ-loop table flag keyid source i₀ i = slotCount - i
-
-loop-holds : tie.Need-loop-holds Inv-loop μ-loop
+returns : tie.Need-returns
 unfolding leadsTo
-loop-holds c = (search needs, refl)
-
-abbrev start : tie.After-agrees Inv-loop μ-loop → tie.Start Inv-loop μ-loop
-start c = c .before .before .before .before .before .before .before
-
--- the slot as it is lent
-tested : (c : tie.After-agrees Inv-loop μ-loop)
-    → let a = start c .args in c .agrees .result ≡ matches (a .flag) (a .keyid .now) (a .source .now) (slotOf (a .table .now) (c .before .before .before .loop .i))
-tested c = rw add-sub-cancel-left at (c .agrees .ensures)
-
-returns : tie.Need-returns Inv-loop μ-loop
-returns c =
-    let l = c .before .before .before .before .loop in
-    sym (l .inv .1 ∙ here _ (l .i) (omega arith) (sym (tested (c .before)) ∙ c .if1 .taken))
-
-loop-again : tie.Need-loop-again Inv-loop μ-loop
-loop-again c =
-    let l = c .before .before .before .before .loop in
-    (search needs, l .inv .1 ∙ further _ (l .i) (omega arith) (sym (tested (c .before)) ∙ c .if1 .left))
-
-returns-2 : tie.Need-returns-2 Inv-loop μ-loop
-returns-2 c = let l = c .before .loop in sym (l .inv .1 ∙ nowhere _ (l .i) (omega arith))
-
-agrees-requires : tie.Need-agrees-requires Inv-loop μ-loop
-agrees-requires c κs = rw add-sub-cancel-left (slot-length (c .before .before .before .before .before .before .args .table .now) (c .before .before .loop .i) (omega arith) (omega arith))
+returns c = c .first-match .ensures
 
 pub leads-to-spec : {M : Type 1} → statement M
-leads-to-spec =
-    tie.close
-    (tie.spec
-    Inv-loop
-    μ-loop
-    loop-holds
-    (λ c. search needs) (λ c. search needs) (λ c. search needs) (λ c. search needs) (λ c. search needs)
-    agrees-requires
-    returns
-    (λ c. search needs) (λ c. search needs)
-    loop-again
-    returns-2)
+leads-to-spec = tie.close (tie.spec (λ c κs. search needs) returns)
