@@ -1,7 +1,7 @@
 -- What install comes to, by the test that leads there.
 -- Assumes nothing.
 use mathlib.Core.Path.{_≡_, ap, _∙_}
-use mathlib.Core.Bool.{true, false, _&&_, not-eq-not}
+use mathlib.Core.Bool.{true, false, _&&_}
 use mathlib.Core.List.{List}
 use Prim.Native.Nat.{ℕ}
 use Rattle.window.specs.Window.{soundFrame}
@@ -33,12 +33,9 @@ module _ (t : List ℕ) (k : KeyData) (f : Frame) where
   unfolding installed
   installs-unfair e = rw e
 
-  pub installs-not : (Fair k f → ⊥) → installed t k f ≡ record { answer = refused unsound; table = t }
-  installs-not bad = installs-unfair (not-eq-not .0 (λ h. bad (fair-facts k f h)))
-
-  pub installs : Fair k f → installed t k f ≡ unlessTwin t (freshSlot k f) (leadsTo t (k .flag) (k .keyId) (k .source))
+  pub installs : Fair k f → installed t k f ≡ unlessTwin t (placed t (freshSlot k f) (firstFree t)) (leadsTo t (k .flag) (k .keyId) (k .source))
   unfolding installed
   installs fair = rw (and-both _ _ (fair .sound) (fair .framed))
 
   pub installs-alone : Fair k f → leadsTo t (k .flag) (k .keyId) (k .source) ≡ Nothing → installed t k f ≡ placed t (freshSlot k f) (firstFree t)
-  installs-alone fair none = installs fair ∙ ap (unlessTwin t (freshSlot k f)) none
+  installs-alone fair none = installs fair ∙ ap (unlessTwin t (placed t (freshSlot k f) (firstFree t))) none

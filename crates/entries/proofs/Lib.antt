@@ -1,4 +1,5 @@
 pub mod Bounds
+pub mod Changes
 pub mod Fresh
 pub mod Installs
 pub mod Outcomes

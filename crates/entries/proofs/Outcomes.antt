@@ -1,19 +1,18 @@
--- What install and remove come to: a refusal, which leaves the table as it was, or done at one slot; and that its length stays.
+-- What install, remove and change come to: a refusal, which leaves the table as it was, or done at one slot; and that its length stays.
 -- Assumes nothing.
 use mathlib.Core.Path.{_≡_, refl, ap, _∙_}
 use mathlib.Core.Bool.{Bool, true, false, _&&_}
 use mathlib.Core.List.{List}
 use mathlib.Core.Logic.{_⊎_, inl, inr}
 use Prim.Native.Nat.{ℕ, _≤_, _<_}
-use native.Mathlib.Decide.{decLt}
-use native.Mathlib.Omega.{arith}
-use lib.Dec.{lit≤}
+use lib.Dec.{lit≤, ltb}
 use Rattle.window.specs.Window.{soundFrame}
 use Rattle.window.specs.declared.Frame.{Frame}
 use Rattle.answers.specs.Answers.{refused, unsound, twin, full, noSlot}
 use Rattle.format.specs.KeyData.{soundOf, KeyData}
 use Rattle.slots.specs.Table.{slotOf, occupied, replaced, emptySlot, slotCount, slotLength, tableLength}
-use Rattle.lookup.specs.Lookup.{leadsTo, firstFree}
+use Rattle.lookup.specs.Lookup.{leadsTo, leadsElsewhere, firstFree}
+use Rattle.entries.specs.Change.{changed}
 use Rattle.entries.specs.Fresh.{freshSlot}
 use Rattle.entries.specs.Install.{Left, doneAt, placed, unlessTwin, installed, removed}
 use Rattle.lookup.specs.declared.Found.{Found}
@@ -23,9 +22,10 @@ use Rattle.octets.specs.Octets.{Bytes}
 use Rattle.format.proofs.Soundness.{sound-facts}
 use Rattle.slots.proofs.Replacing.{length-replaced}
 use Rattle.lookup.proofs.Firsts.{free-small}
+use Rattle.entries.proofs.Changes.{changes-not, changes-unfair, changes, changes-alone}
 use Rattle.entries.proofs.Fresh.{length-fresh}
 use Rattle.entries.proofs.Installs.{Fair, fair-facts, installs-unfair, installs, installs-alone}
-use Rattle.entries.proofs.Removing.{removes-over, removes-free, removes}
+use Rattle.entries.proofs.Removing.{removes-not, removes, held-small, held-occupied}
 
 pub record Refuses (t : List ℕ) (left : Left) : Type 0 where
   pub reply : ℕ
@@ -53,7 +53,7 @@ module _ (t : List ℕ) (k : KeyData) (f : Frame) where
           inl (record {
             reply = twin;
             some = lit≤ tt;
-            is = installs t k f (fair-facts k f e) ∙ ap (unlessTwin t fresh) l;
+            is = installs t k f (fair-facts k f e) ∙ ap (unlessTwin t (placed t fresh (firstFree t))) l;
           })
       by true e Nothing l Nothing g =
           inl (record {
@@ -79,12 +79,41 @@ pub record Frees (t : List ℕ) (i : ℕ) : Type 0 where
   pub is : removed t i ≡ record { answer = doneAt i; table = replaced t i emptySlot }
 
 pub remove-outcome : (t : List ℕ) (i : ℕ) → Refuses t (removed t i) ⊎ Frees t i
-remove-outcome t i = by (decLt i slotCount) (occupied (slotOf t i)) refl
+remove-outcome t i = by (ltb i slotCount && occupied (slotOf t i)) refl
   where
-    by : Dec (i < slotCount) → (b : Bool) → occupied (slotOf t i) ≡ b → Refuses t (removed t i) ⊎ Frees t i
-    by (no h) b e = inl (record { reply = noSlot; some = lit≤ tt; is = removes-over t i (omega arith) })
-    by (yes h) false e = inl (record { reply = noSlot; some = lit≤ tt; is = removes-free t i e })
-    by (yes h) true e = inr (record { small = h; held = e; is = removes t i h e })
+    by : (b : Bool) → (ltb i slotCount && occupied (slotOf t i)) ≡ b → Refuses t (removed t i) ⊎ Frees t i
+    by false e = inl (record { reply = noSlot; some = lit≤ tt; is = removes-not t i e })
+    by true e = inr (record { small = held-small t i e; held = held-occupied t i e; is = removes t i e })
+
+-- the slot holds a fresh entry without a twin elsewhere
+pub record Changes (t : List ℕ) (i : ℕ) (k : KeyData) (f : Frame) : Type 0 where
+  pub small : i < slotCount
+  pub held : occupied (slotOf t i) ≡ true
+  pub fair : Fair k f
+  pub alone : leadsElsewhere t i (k .flag) (k .keyId) (k .source) ≡ Nothing
+  pub is : changed t i k f ≡ record { answer = doneAt i; table = replaced t i (freshSlot k f) }
+
+pub change-outcome : (t : List ℕ) (i : ℕ) (k : KeyData) (f : Frame) → Refuses t (changed t i k f) ⊎ Changes t i k f
+change-outcome t i k f = by (ltb i slotCount && occupied (slotOf t i)) refl (soundOf k && soundFrame f) refl (leadsElsewhere t i (k .flag) (k .keyId) (k .source)) refl
+  where
+    by : (b : Bool) → (ltb i slotCount && occupied (slotOf t i)) ≡ b → (s : Bool) → (soundOf k && soundFrame f) ≡ s
+        → (led : Found) → leadsElsewhere t i (k .flag) (k .keyId) (k .source) ≡ led → Refuses t (changed t i k f) ⊎ Changes t i k f
+    by false h s e led l = inl (record { reply = noSlot; some = lit≤ tt; is = changes-not t i k f h })
+    by true h false e led l = inl (record { reply = unsound; some = lit≤ tt; is = changes-unfair t i k f h e })
+    by true h true e (At j) l =
+        inl (record {
+          reply = twin;
+          some = lit≤ tt;
+          is = changes t i k f h e ∙ ap (unlessTwin t (placed t (freshSlot k f) (At i))) l;
+        })
+    by true h true e Nothing l =
+        inr (record {
+          small = held-small t i h;
+          held = held-occupied t i h;
+          fair = fair-facts k f e;
+          alone = l;
+          is = changes-alone t i k f h e l;
+        })
 
 -- ---- the table stays as long as it was
 
@@ -104,3 +133,11 @@ module _ (t : List ℕ) (long : length t ≡ tableLength) where
       by : Refuses t (removed t i) ⊎ Frees t i → length (removed t i .table) ≡ tableLength
       by (inl r) = rw (r .is) long
       by (inr f) = rw (f .is) (length-replaced t i emptySlot long (f .small) (length-replicate {A = ℕ} slotLength 0))
+
+  pub change-length : (i : ℕ) (k : KeyData) (f : Frame) → Bytes (k .keyId) → length (changed t i k f .table) ≡ tableLength
+  change-length i k f b = by (change-outcome t i k f)
+    where
+      by : Refuses t (changed t i k f) ⊎ Changes t i k f → length (changed t i k f .table) ≡ tableLength
+      by (inl r) = rw (r .is) long
+      by (inr c) =
+          rw (c .is) (length-replaced t i (freshSlot k f) long (c .small) (length-fresh (sound-facts k (c .fair .sound)) (b 0) f))

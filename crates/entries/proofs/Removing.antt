@@ -1,23 +1,31 @@
--- What remove comes to, by the test that leads there.
+-- What remove comes to, by the test of 16; and that test as facts.
 -- Assumes nothing.
 use mathlib.Core.Path.{_≡_}
-use mathlib.Core.Bool.{true, false, and-false}
+use mathlib.Core.Bool.{true, false, _&&_}
 use mathlib.Core.List.{List}
-use Prim.Native.Nat.{ℕ, _≤_, _<_}
-use borrow.Author.Tests.{lt-ltb, le-ltb}
+use Prim.Native.Nat.{ℕ, _<_}
+use borrow.Author.Tests.{lt-ltb, ltb-true}
+use lib.Dec.{ltb}
+use Rattle.numbers.proofs.Tests.{and-left, and-right, and-both}
 use Rattle.answers.specs.Answers.{refused, noSlot}
 use Rattle.slots.specs.Table.{slotOf, occupied, replaced, emptySlot, slotCount}
 use Rattle.entries.specs.Install.{doneAt, removed}
 
 module _ (t : List ℕ) (i : ℕ) where
-  pub removes-over : slotCount ≤ i → removed t i ≡ record { answer = refused noSlot; table = t }
+  pub removes-not : (ltb i slotCount && occupied (slotOf t i)) ≡ false → removed t i ≡ record { answer = refused noSlot; table = t }
   unfolding removed
-  removes-over h = simp (le-ltb i slotCount h)
+  removes-not e = rw e
 
-  pub removes-free : occupied (slotOf t i) ≡ false → removed t i ≡ record { answer = refused noSlot; table = t }
+  pub removes : (ltb i slotCount && occupied (slotOf t i)) ≡ true → removed t i ≡ record { answer = doneAt i; table = replaced t i emptySlot }
   unfolding removed
-  removes-free h = simp (h, and-false)
+  removes e = rw e
 
-  pub removes : i < slotCount → occupied (slotOf t i) ≡ true → removed t i ≡ record { answer = doneAt i; table = replaced t i emptySlot }
-  unfolding removed
-  removes h held = simp (lt-ltb i slotCount h, held)
+  -- the test, as facts
+  pub held-small : (ltb i slotCount && occupied (slotOf t i)) ≡ true → i < slotCount
+  held-small e = ltb-true i slotCount (and-left (ltb i slotCount) (occupied (slotOf t i)) e)
+
+  pub held-occupied : (ltb i slotCount && occupied (slotOf t i)) ≡ true → occupied (slotOf t i) ≡ true
+  held-occupied e = and-right (ltb i slotCount) (occupied (slotOf t i)) e
+
+  pub is-held : i < slotCount → occupied (slotOf t i) ≡ true → (ltb i slotCount && occupied (slotOf t i)) ≡ true
+  is-held small busy = and-both (ltb i slotCount) (occupied (slotOf t i)) (lt-ltb i slotCount small) busy

@@ -35,14 +35,14 @@ abbrev pub placed : List ℕ → List ℕ → Found → Left
 placed t fresh (At i) = record { answer = doneAt i; table = replaced t i fresh }
 placed t fresh Nothing = record { answer = refused full; table = t }
 
--- where no occupied slot has the same flag and KeyId and, for flag 1, source
-abbrev pub unlessTwin : List ℕ → List ℕ → Found → Left
-unlessTwin t fresh (At i) = record { answer = refused twin; table = t }
-unlessTwin t fresh Nothing = placed t fresh (firstFree t)
+-- where no slot was found that has the same flag and KeyId and, for flag 1, source
+abbrev pub unlessTwin : List ℕ → Left → Found → Left
+unlessTwin t done (At i) = record { answer = refused twin; table = t }
+unlessTwin t done Nothing = done
 
 unfoldable pub installed : List ℕ → KeyData → Frame → Left
 installed t k f =
-    cond (soundOf k && soundFrame f) (unlessTwin t (freshSlot k f) (leadsTo t (k .flag) (k .keyId) (k .source)))
+    cond (soundOf k && soundFrame f) (unlessTwin t (placed t (freshSlot k f) (firstFree t)) (leadsTo t (k .flag) (k .keyId) (k .source)))
     (record { answer = refused unsound; table = t })
 
 -- "16: slot over 15, or free"; "A freed slot holds zeros only"

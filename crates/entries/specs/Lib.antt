@@ -1,2 +1,3 @@
+pub mod Change
 pub mod Fresh
 pub mod Install

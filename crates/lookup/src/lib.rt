@@ -20,13 +20,7 @@ pub fn leads_to(table: &[u8], flag: u8, keyid: &[u8], source: &[u8]) -> Found
 }
 
 // The lowest of those that are not this slot.
-pub fn leads_elsewhere(
-    table: &[u8],
-    slot: usize,
-    flag: u8,
-    keyid: &[u8],
-    source: &[u8],
-) -> Found
+pub fn leads_elsewhere(table: &[u8], slot: usize, flag: u8, keyid: &[u8], source: &[u8]) -> Found
     requires { ⌜ (length (now table) ≡ tableLength) × (slot < slotCount) ⌝ }
     ensures { λ r. ⌜ r ≡ leadsElsewhere (now (table .entry)) slot flag (now (keyid .entry)) (now (source .entry)) ⌝ }
 {

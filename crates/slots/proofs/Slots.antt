@@ -25,7 +25,7 @@ module _ (t : List ℕ) (i : ℕ) where
   slot-byte k h = part-at (slotLength * i) slotLength t k h
 
   -- whether it is free, by its first byte
-  slot-first : getD (slotOf t i) 0 0 ≡ getD t (slotLength * i) 0
+  pub slot-first : getD (slotOf t i) 0 0 ≡ getD t (slotLength * i) 0
   slot-first = slot-byte 0 (lit< tt) ∙ rw add-zero
 
   pub slot-free : getD t (slotLength * i) 0 ≡ 0 → occupied (slotOf t i) ≡ false
