@@ -1,3 +1,4 @@
+pub mod AsTwo
 pub mod Bounds
 pub mod Changes
 pub mod Fresh

@@ -159,6 +159,11 @@ module _ (t : List ℕ) (i : ℕ) where
   unfolding firstFree
   free-small e = found (λ j. not (occupied (slotOf t j))) slotCount 0 i e .0
 
+  -- where a slot is free, one is found: it, or one below it
+  pub free-found : i < slotCount → occupied (slotOf t i) ≡ false → (j : ℕ) × (firstFree t ≡ At j) × (j ≤ i)
+  unfolding firstFree
+  free-found small e = reached (λ j. not (occupied (slotOf t j))) slotCount 0 i (omega arith) small (ap not e)
+
   pub free-empty : firstFree t ≡ At i → occupied (slotOf t i) ≡ false
   unfolding firstFree
   free-empty e = not-true (occupied (slotOf t i)) (found (λ j. not (occupied (slotOf t j))) slotCount 0 i e .1)

@@ -47,6 +47,16 @@ put-put l at u v h =
 pub put-behind : (l : List ℕ) (at n : ℕ) (u v : List ℕ) → at ≤ length l → at + length u ≡ n → put (put l at u) n v ≡ put l at (u ++ v)
 put-behind l at n u v h e = ap (λ (k : ℕ). put (put l at u) k v) (sym e) ∙ put-put l at u v h
 
+-- of two writes over each other the second stays
+pub put-again : (l : List ℕ) (at : ℕ) (u v : List ℕ) → at + length u ≤ length l → length u ≡ length v → put (put l at u) at v ≡ put l at v
+put-again l at u v room same =
+    let head : length (take at l) ≡ at = length-take-le at l (omega arith) in
+    let ahead : length (take at l ++ u) ≡ at + length v = length-append (take at l) u ∙ omega arith in
+    ap₂ (λ (x y : List ℕ). x ++ v ++ y)
+    (ap (λ (n : ℕ). take n (put l at u)) (sym head) ∙ ap (take (length (take at l))) (append-assoc (take at l) u (drop (at + length u) l))
+    ∙ take-append-seam (take at l) (u ++ drop (at + length u) l))
+    (ap (λ (n : ℕ). drop n (put l at u)) (sym ahead) ∙ drop-append-seam (take at l ++ u) (drop (at + length u) l) ∙ ap (λ (n : ℕ). drop (at + n) l) same)
+
 -- ---- stretches, each behind the one before
 
 -- a stretch stands at a place of what was the list l, and ends where the next may stand
