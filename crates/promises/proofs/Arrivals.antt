@@ -34,7 +34,7 @@ use Rattle.lookup.proofs.Matching.{match-facts, same-matches}
 use Rattle.gateway.specs.Receive.{Received, received, led, handedOut}
 use Rattle.gateway.proofs.Arrivals.{Led}
 use Rattle.gateway.proofs.Cascade.{of-received}
-use Rattle.promises.specs.Calls.{Call, arrival, install, remove, load, called, after, run, results}
+use Rattle.promises.specs.Calls.{Call, arrival, install, remove, change, load, called, after, run, results}
 use Rattle.promises.specs.Captures.{Arrives, AllArrive, NothingHanded, Spared, BooksOnce}
 use Rattle.promises.specs.Counted.{Beginning, standing, Message, Told, apart, below, used, forged, new, tested, told, toldFrom, toldBy, numbers, highestSince, isIn, isBelow, isUsed, isOf, isNew}
 use Rattle.promises.specs.History.{Begins, GoesOn, handed, one, replyTo}
@@ -119,6 +119,7 @@ arrivals-go-on i t [] all = tt
 arrivals-go-on i t (arrival m source out ∷ cs) all = (all .0, refl, arrivals-go-on i (after t (arrival m source out)) cs (all .1))
 arrivals-go-on i t (install k f ∷ cs) all = absurd (all .0)
 arrivals-go-on i t (remove j ∷ cs) all = absurd (all .0)
+arrivals-go-on i t (change j k f ∷ cs) all = absurd (all .0)
 arrivals-go-on i t (load text ∷ cs) all = absurd (all .0)
 
 pub arrivals-append : (cs ds : List Call) → AllArrive cs → AllArrive ds → AllArrive (cs ++ ds)
@@ -137,6 +138,7 @@ arrivals-unmoved t long (arrival m source out ∷ cs) all =
     }
 arrivals-unmoved t long (install k f ∷ cs) all = absurd (all .0)
 arrivals-unmoved t long (remove j ∷ cs) all = absurd (all .0)
+arrivals-unmoved t long (change j k f ∷ cs) all = absurd (all .0)
 arrivals-unmoved t long (load text ∷ cs) all = absurd (all .0)
 
 -- ---- a message that has come is refused ever after
@@ -227,6 +229,7 @@ module _ (t : List ℕ) (long : length t ≡ tableLength) where
       no-reply (standing (keyDataOf (slotOf t i)) (entryOf (slotOf t i))) m source out h (o .led .read) ds (sym (replies m source out bytes (o .led .room) h (o .led .read) mine) ∙ done)
   refused-again (install k f) bytes ds all done = absurd bytes
   refused-again (remove j) bytes ds all done = absurd bytes
+  refused-again (change j k f) bytes ds all done = absurd bytes
   refused-again (load text) bytes ds all done = absurd bytes
 
 -- ---- the same arrivals again
@@ -258,6 +261,7 @@ nothing-moves t (arrival m source out ∷ cs) all none =
     ap (λ (x : List ℕ). run x cs) same ∙ nothing-moves t cs (all .1) (subst (λ (x : List ℕ). NothingHanded (results x cs)) same (none .1))
 nothing-moves t (install k f ∷ cs) all none = absurd (all .0)
 nothing-moves t (remove j ∷ cs) all none = absurd (all .0)
+nothing-moves t (change j k f ∷ cs) all none = absurd (all .0)
 nothing-moves t (load text ∷ cs) all none = absurd (all .0)
 
 -- ---- no number twice at one slot
@@ -294,6 +298,7 @@ spared b a {t} {past} now met (arrival m source out ∷ cs) all =
     )
 spared b a now met (install k f ∷ cs) all = absurd (all .0)
 spared b a now met (remove j ∷ cs) all = absurd (all .0)
+spared b a now met (change j k f ∷ cs) all = absurd (all .0)
 spared b a now met (load text ∷ cs) all = absurd (all .0)
 
 -- On any table, arrivals hand out no number twice at one slot.
@@ -312,4 +317,5 @@ books-once t long (arrival m source out ∷ cs) all =
     )
 books-once t long (install k f ∷ cs) all = absurd (all .0)
 books-once t long (remove j ∷ cs) all = absurd (all .0)
+books-once t long (change j k f ∷ cs) all = absurd (all .0)
 books-once t long (load text ∷ cs) all = absurd (all .0)

@@ -22,7 +22,7 @@ use Rattle.format.proofs.Room.{read-room}
 use Rattle.message.specs.Sealing.{right}
 use Rattle.slots.specs.Table.{slotOf, entryOf}
 use Rattle.gateway.specs.Receive.{received, replyOf}
-use Rattle.promises.specs.Calls.{Call, arrival, install, remove, load, called}
+use Rattle.promises.specs.Calls.{Call, arrival, install, remove, change, load, called}
 use Rattle.promises.specs.Cases.{Step, repliedTo, entryAfter, Turns, goes, Follows, Like, Row}
 use Rattle.promises.specs.Counted.{Beginning, Message, Told, isBelow, isUsed, isOf, tested, told, isGenuine}
 use Rattle.promises.specs.History.{Begins, countedOf, replyTo}
@@ -105,6 +105,7 @@ module _ {b : Beginning} {i : ℕ} where
   goes-on e now l (s ∷ ss) [] f accepted marks g = absurd f
   goes-on e now l (s ∷ ss) (install other frame ∷ cs) f accepted marks g = absurd f
   goes-on e now l (s ∷ ss) (remove j ∷ cs) f accepted marks g = absurd f
+  goes-on e now l (s ∷ ss) (change j other frame ∷ cs) f accepted marks g = absurd f
   goes-on e now l (s ∷ ss) (load text ∷ cs) f accepted marks g = absurd f
   goes-on {t} e now l (s ∷ ss) (arrival m source out ∷ cs) f accepted marks g =
       let c = turns now m source out (f .0) (f .1) (f .2) in

@@ -24,7 +24,7 @@ use Rattle.window.specs.declared.Verdict.the-variants.{Admissible}
 use Rattle.window.proofs.Accept.{Takes, accept-marked, accept-rises}
 use Rattle.window.proofs.Entries.{UndamagedEntry, taken-undamaged}
 use Rattle.window.proofs.Undamaged.{undamaged-facts, takes}
-use Rattle.promises.specs.Calls.{Call, arrival, install, remove, load}
+use Rattle.promises.specs.Calls.{Call, arrival, install, remove, change, load}
 use Rattle.promises.specs.Counted.{Beginning, Message, Told, apart, below, used, forged, new, messages, numbers, isIn, highestSince, isBelow, isUsed, isOf, tested, toldOf, told, toldFrom, isGenuine, isCounted, isNew}
 use Rattle.promises.specs.History.{nothing, one, noted, countedOf, different, total}
 
@@ -138,6 +138,7 @@ module _ (b : Beginning) (past : List Told) where
       by TooShort e = not-read short
   counted-words (install k f) = refl
   counted-words (remove i) = refl
+  counted-words (change i k f) = refl
   counted-words (load text) = refl
 
   -- A counted message's number was not below the floor, and neither counted nor used before.
@@ -173,6 +174,7 @@ module _ (b : Beginning) (past : List Told) where
       by-room false TooShort e = absurd (false≢true (ap isNew e))
   counted-new (install k f) y e = absurd (false≢true (ap isNew e))
   counted-new (remove i) y e = absurd (false≢true (ap isNew e))
+  counted-new (change i k f) y e = absurd (false≢true (ap isNew e))
   counted-new (load text) y e = absurd (false≢true (ap isNew e))
 
 -- what is handed out tells what was told

@@ -6,6 +6,7 @@ use Prim.Native.Nat.{ℕ}
 use Rattle.window.specs.declared.Frame.{Frame}
 use Rattle.format.specs.KeyData.{KeyData}
 use Rattle.answers.specs.declared.Answer.{Answer}
+use Rattle.entries.specs.Change.{changed}
 use Rattle.entries.specs.Install.{Left, IsLeft, installed, removed}
 use Rattle.loading.specs.Load.{loaded}
 use Rattle.listing.specs.Listing.{IsListed, listed}
@@ -31,6 +32,10 @@ module _ {a b : Answer} {t u : List ℕ} where
 
   pub remove-determined : (table : List ℕ) (i : ℕ) → IsLeft (removed table i) a t → IsLeft (removed table i) b u → (a ≡ b) × (t ≡ u)
   remove-determined table i = left-determined
+
+  pub change-determined : (table : List ℕ) (i : ℕ) (k : KeyData) (f : Frame)
+      → IsLeft (changed table i k f) a t → IsLeft (changed table i k f) b u → (a ≡ b) × (t ≡ u)
+  change-determined table i k f = left-determined
 
   pub load-determined : (table text : List ℕ) → IsLeft (loaded table text) a t → IsLeft (loaded table text) b u → (a ≡ b) × (t ≡ u)
   load-determined table text = left-determined

@@ -24,12 +24,13 @@ use Rattle.format.specs.declared.suite.Suite.{Suite}
 use Rattle.format.specs.declared.suite.Numbered.{Numbered}
 use Rattle.format.specs.declared.suite.Numbered.the-variants.{Known, Unknown}
 use Rattle.listing.specs.Listing.{Listed, listed, listingOf}
+use Rattle.entries.specs.Change.{changed}
 use Rattle.entries.specs.Fresh.{freshSlot}
 use Rattle.entries.specs.Install.{Left, installed, removed, unlessTwin, placed}
 use Rattle.loading.specs.Form.{Listing, listingIn}
 use Rattle.loading.specs.Load.{takenUp, takenUpFrom, loaded}
 use Rattle.gateway.specs.Receive.{Received, received, parsed, led, arrived, judged, checked, unsealed, handedOut, kept}
-use Rattle.lookup.specs.Lookup.{leadsTo, firstFree}
+use Rattle.lookup.specs.Lookup.{leadsTo, leadsElsewhere, firstFree}
 use Rattle.slots.specs.Record.{undamaged}
 use Rattle.slots.specs.Table.{slotOf, occupied, csOf, windowOf, slotCount, keyDataOf}
 use Rattle.lookup.specs.declared.Found.{Found}
@@ -47,7 +48,7 @@ use Rattle.sender.specs.declared.Sender.{Sender}
 use Rattle.format.proofs.Soundness.{sound-facts}
 use Rattle.format.proofs.Suites.{suite-number}
 use Rattle.promises.proofs.Reading.{headerIn, said-by-tests}
-use Rattle.promises.specs.Replies.{Reply, firstOf, testOf, earlier, noneFits, Exactly, isNumbered, distinct, isNothing, ofSuite, isLong, ledTo, slotIn, rightIn, receiveReplies, isListing, standsIn, loadableIn, loadReplies, installReplies, removeReplies, listingReplies, reportReplies, recordReplies, protectReplies}
+use Rattle.promises.specs.Replies.{Reply, firstOf, testOf, earlier, noneFits, Exactly, isNumbered, distinct, isNothing, ofSuite, isLong, ledTo, slotIn, rightIn, receiveReplies, isListing, standsIn, loadableIn, loadReplies, installReplies, removeReplies, changeReplies, listingReplies, reportReplies, recordReplies, protectReplies}
 
 -- a choice between two, seen through a function or by the opposite test
 pushed : {A B : Type 0} (f : A → B) (b : Bool) (x y : A) → f (cond b x y) ≡ cond b (f x) (f y)
@@ -101,7 +102,7 @@ exactly rs e d = record {
   done = ap (λ (x : ℕ). eqb x 0) e ∙ first-done rs d;
 }
 
--- ---- install and remove
+-- ---- install, remove and change
 
 pub remove-reply : (t : List ℕ) (i : ℕ) → removed t i .answer .reply ≡ firstOf (removeReplies t i)
 unfolding removed removeReplies
@@ -109,22 +110,41 @@ remove-reply t i =
     let b = ltb i slotCount && occupied (slotOf t i) in
     pushed (λ (l : Left). l .answer .reply) b _ _ ∙ sym (flipped b 16 0)
 
-module _ (t fresh : List ℕ) where
-  free-reply : (g : Found) → placed t fresh g .answer .reply ≡ cond (isNothing g) 15 0
-  free-reply (At i) = refl
-  free-reply Nothing = refl
+module _ (t : List ℕ) where
+  free-reply : (fresh : List ℕ) (g : Found) → placed t fresh g .answer .reply ≡ cond (isNothing g) 15 0
+  free-reply fresh (At i) = refl
+  free-reply fresh Nothing = refl
 
-  twin-reply : (f : Found) → unlessTwin t fresh f .answer .reply ≡ cond (not (isNothing f)) 14 (cond (isNothing (firstFree t)) 15 0)
-  twin-reply (At i) = refl
-  twin-reply Nothing = free-reply (firstFree t)
+  twin-reply : (done : Left) (f : Found) → unlessTwin t done f .answer .reply ≡ cond (not (isNothing f)) 14 (done .answer .reply)
+  twin-reply done (At i) = refl
+  twin-reply done Nothing = refl
 
 pub install-reply : (t : List ℕ) (k : KeyData) (f : Frame)
     → installed t k f .answer .reply ≡ firstOf (installReplies t k f)
 unfolding installed installReplies
 install-reply t k f =
     let b = soundOf k && soundFrame f in
+    let found = leadsTo t (k .flag) (k .keyId) (k .source) in
+    let in-free = placed t (freshSlot k f) (firstFree t) in
     pushed (λ (l : Left). l .answer .reply) b _ _
-    ∙ rw (twin-reply t (freshSlot k f) (leadsTo t (k .flag) (k .keyId) (k .source))) (sym (flipped b 13 _))
+    ∙ rw (twin-reply t in-free found, free-reply t (freshSlot k f) (firstFree t)) (sym (flipped b 13 _))
+
+pub change-reply : (t : List ℕ) (i : ℕ) (k : KeyData) (f : Frame) → changed t i k f .answer .reply ≡ firstOf (changeReplies t i k f)
+unfolding changed changeReplies
+change-reply t i k f = by (ltb i slotCount && occupied (slotOf t i)) (soundOf k && soundFrame f) (leadsElsewhere t i (k .flag) (k .keyId) (k .source))
+  where
+    refusal : ℕ → Left
+    refusal n = record { answer = refused n; table = t }
+
+    done : Left
+    done = placed t (freshSlot k f) (At i)
+
+    by : (held fair : Bool) (led : Found) → cond held (cond fair (unlessTwin t done led) (refusal 13)) (refusal 16) .answer .reply
+        ≡ cond (not held) 16 (cond (not fair) 13 (cond (not (isNothing led)) 14 0))
+    by false fair led = refl
+    by true false led = refl
+    by true true (At j) = refl
+    by true true Nothing = refl
 
 -- ---- receive
 
@@ -296,6 +316,10 @@ install-exactly t k f = exactly (installReplies t k f) (install-reply t k f) ref
 pub remove-exactly : (t : List ℕ) (i : ℕ) → Exactly (removed t i .answer .reply) (removeReplies t i)
 unfolding removeReplies
 remove-exactly t i = exactly (removeReplies t i) (remove-reply t i) refl
+
+pub change-exactly : (t : List ℕ) (i : ℕ) (k : KeyData) (f : Frame) → Exactly (changed t i k f .answer .reply) (changeReplies t i k f)
+unfolding changeReplies
+change-exactly t i k f = exactly (changeReplies t i k f) (change-reply t i k f) refl
 
 pub load-exactly : (t text : List ℕ) → Exactly (loaded t text .answer .reply) (loadReplies t text)
 unfolding loadReplies

@@ -37,7 +37,7 @@ use Rattle.entries.specs.Install.{Left, doneAt, placed, installed, removed}
 use Rattle.entries.proofs.Fresh.{length-fresh}
 use Rattle.entries.proofs.Installs.{installs-alone}
 use Rattle.entries.proofs.Outcomes.{Refuses, Enters, Frees, install-outcome, remove-outcome}
-use Rattle.entries.proofs.Removing.{removes}
+use Rattle.entries.proofs.Removing.{removes, is-held}
 use Rattle.listing.specs.Listing.{listingOf, listed}
 use Rattle.listing.proofs.Listed.{lists}
 use Rattle.loading.specs.Form.{SettledValues, Listing}
@@ -48,15 +48,15 @@ use Rattle.loading.proofs.RoundTrip.{settledOf, valuesOf, listing-read}
 use Rattle.loading.proofs.Standing as Taken
 use Rattle.loading.proofs.Standing.{stand-test}
 use Rattle.gateway.specs.Receive.{Received, received}
-use Rattle.promises.specs.Calls.{Call, arrival, install, remove, load, called, after, run, isDone, Trace, lastOf}
+use Rattle.promises.specs.Calls.{Call, arrival, install, remove, change, load, OfBytes, called, after, run, isDone, Trace, lastOf}
 use Rattle.promises.specs.Counted.{Beginning, fresh, standing, Message, numbersOf, isOf, Told, apart, below, used, forged, new, told, toldFrom, toldBy, counted}
-use Rattle.promises.specs.History.{Begins, Handed, nothing, one, handedBy, Unended, GoesOn, ends, different, countedOf, replyTo, SameFor, Resumed}
+use Rattle.promises.specs.History.{Begins, Handed, nothing, one, handed, handedBy, Unended, GoesOn, ends, different, countedOf, replyTo, SameFor, NoChangeOf, Unchanged, Resumed}
 use Rattle.promises.proofs.Beginnings.{install-begins, slot-begins}
 use Rattle.promises.proofs.Held.{Held, held-small, held-alike}
 use Rattle.promises.proofs.Loads.{listing-loads, load-history}
 use Rattle.promises.proofs.Refusals.{receive-keeps}
-use Rattle.promises.proofs.Runs.{begun, stands-on, hands-on, accounts}
-use Rattle.promises.proofs.Steps.{Stands, arrives, replied, step, unharmed}
+use Rattle.promises.proofs.Runs.{begun, stands-on, hands-on, accounts, spares}
+use Rattle.promises.proofs.Steps.{Stands, Does, arrives, replied, step, unharmed}
 use Rattle.promises.proofs.Traces.{trace-results, trace-run}
 use Rattle.promises.proofs.Worthless.{answered-gives}
 
@@ -136,11 +136,6 @@ record InStep (b : Beginning) (i : ℕ) (t u : List ℕ) (past : List Told) : Ty
   second : Stands b i u past
   entries : entryOf (slotOf t i) ≡ entryOf (slotOf u i)
 
--- calls have left both so, and go on in the second
-record Goes (b : Beginning) (i : ℕ) (t u : List ℕ) (past : List Told) (es : List Call) : Type 0 where
-  on : GoesOn i u es
-  both : InStep b i (run t es) (run u es) (toldFrom b past es)
-
 module _ {b : Beginning} {i : ℕ} where
   module _ {t u : List ℕ} {past : List Told} (both : InStep b i t u past) where
     same-answer : (m source out : List ℕ) → Bytes m → (h : Header) → readOf m ≡ Read h → isOf (b .keys) h m source ≡ true
@@ -168,7 +163,7 @@ module _ {b : Beginning} {i : ℕ} where
   swapped : {t u : List ℕ} {past : List Told} → InStep b i t u past → InStep b i u t past
   swapped both = record { first = both .second; second = both .first; entries = sym (both .entries) }
 
-  -- what ends the history in one ends it in the other: a removal or a load that is done at the slot
+  -- what ends the history in one ends it in the other, if it is no change: a removal or a load that is done at the slot
   removes-too : {t u : List ℕ} {past : List Told} → InStep b i t u past → (j : ℕ) → isDone i (removed t j .answer) ≡ true → isDone i (removed u j .answer) ≡ true
   removes-too {t} {u} both j done = by (remove-outcome t j) (remove-outcome u j)
     where
@@ -179,7 +174,7 @@ module _ {b : Beginning} {i : ℕ} where
           let same : j ≡ i = eqb-true j i (rw (f .is) at done) in
           let small = held-small (both .second .held) in
           let busy : occupied (slotOf u j) ≡ true = rw (same, ne-eqb (getD (slotOf u i) occupiedAt 0) 0 (held-alike (both .second .held) .held)) in
-          absurd (omega (arith, r .some, ap (λ (l : Left). l .answer .reply) (sym (r .is) ∙ removes u j (rw same small) busy)))
+          absurd (omega (arith, r .some, ap (λ (l : Left). l .answer .reply) (sym (r .is) ∙ removes u j (is-held u j (rw same small) busy))))
 
   -- the entry that a listing names stands in one as in the other
   stands-too : {t u : List ℕ} {past : List Told} → InStep b i t u past → (v : SettledValues) → Taken.Stands v (slotOf t i) → Taken.Stands v (slotOf u i)
@@ -199,29 +194,40 @@ module _ {b : Beginning} {i : ℕ} where
           let is = is-read u text (n .read) ∙ takes-up u l (n .small) (subst (λ (x : ℕ). stands (l .settled) (slotOf u x) ≡ true) (sym slot) there) (subst (λ (x : ℕ). soundOf (keyDataOf (slotOf u x)) ≡ true) (sym slot) sound) (entry-test (listedEntry l) (n .unharmed)) in
           rw (is, slot, eq-eqb i i refl)
 
-  ends-too : {t u : List ℕ} {past : List Told} → InStep b i t u past → (c : Call) → ends i c (called t c .answer) ≡ false → ends i c (called u c .answer) ≡ false
-  ends-too both (arrival m source out) goes = refl
-  ends-too both (install k f) goes = refl
-  ends-too both (remove j) goes = not-eq-not .0 (λ e. true≢false (sym (removes-too (swapped both) j e) ∙ goes))
-  ends-too both (load text) goes = not-eq-not .0 (λ e. true≢false (sym (loads-too (swapped both) text e) ∙ goes))
+  ends-too : {t u : List ℕ} {past : List Told} → InStep b i t u past → (c : Call) → NoChangeOf i c → ends i c (called t c .answer) ≡ false → ends i c (called u c .answer) ≡ false
+  ends-too both (arrival m source out) other goes = refl
+  ends-too both (install k f) other goes = refl
+  ends-too both (remove j) other goes = not-eq-not .0 (λ e. true≢false (sym (removes-too (swapped both) j e) ∙ goes))
+  ends-too {u = u} both (change j k f) other goes = spares i u (change j k f) other
+  ends-too both (load text) other goes = not-eq-not .0 (λ e. true≢false (sym (loads-too (swapped both) text e) ∙ goes))
 
-  -- so both go on alike, and stay in step
-  in-step : {t u : List ℕ} {past : List Told} → InStep b i t u past → (es : List Call) → GoesOn i t es → Goes b i t u past es
-  in-step both [] p = record { on = tt; both = both }
-  in-step {t} {u} {past} both (c ∷ es) p =
-      let go = ends-too both c (p .1) in
-      let first = step (both .first) c (p .0) (p .1) in
-      let second = step (both .second) c (p .0) go in
-      let rest = in-step (record { first = first .stands; second = second .stands; entries = moves go (countedOf (told b past c)) refl }) es (p .2) in
-      record { on = (p .0, go, rest .on); both = rest .both }
+  -- a call that ends it in neither leaves both in step
+  both-step : {t u : List ℕ} {past : List Told} → InStep b i t u past → (c : Call) → OfBytes c → ends i c (called t c .answer) ≡ false → ends i c (called u c .answer) ≡ false
+      → InStep b i (after t c) (after u c) (told b past c ∷ past)
+  both-step {t} {u} {past} both c bytes goes go =
+      record { first = first .stands; second = second .stands; entries = moves (countedOf (told b past c)) refl }
     where
-      moves : ends i c (called u c .answer) ≡ false → (x : Handed) → countedOf (told b past c) ≡ x → entryOf (slotOf (after t c) i) ≡ entryOf (slotOf (after u c) i)
-      moves go nothing e =
-          ap entryOf (step (both .first) c (p .0) (p .1) .untouched e) ∙ both .entries ∙ sym (ap entryOf (step (both .second) c (p .0) go .untouched e))
-      moves go (one x) e =
-          step (both .first) c (p .0) (p .1) .takes x e
-          ∙ ap (λ (z : Entry). taken z (x .number) (x .payload)) (both .entries)
-          ∙ sym (step (both .second) c (p .0) go .takes x e)
+      first : Does b i t past (handed i t c) (after t c) (told b past c)
+      first = step (both .first) c bytes goes
+
+      second : Does b i u past (handed i u c) (after u c) (told b past c)
+      second = step (both .second) c bytes go
+
+      moves : (x : Handed) → countedOf (told b past c) ≡ x → entryOf (slotOf (after t c) i) ≡ entryOf (slotOf (after u c) i)
+      moves nothing e = ap entryOf (first .untouched e) ∙ both .entries ∙ sym (ap entryOf (second .untouched e))
+      moves (one x) e = first .takes x e ∙ ap (λ (z : Entry). taken z (x .number) (x .payload)) (both .entries) ∙ sym (second .takes x e)
+
+  -- so calls that go on in both leave them in step,
+  in-step : {t u : List ℕ} {past : List Told} → InStep b i t u past → (es : List Call) → GoesOn i t es → GoesOn i u es → InStep b i (run t es) (run u es) (toldFrom b past es)
+  in-step both [] p q = both
+  in-step both (c ∷ es) p q = in-step (both-step both c (p .0) (p .1) (q .1)) es (p .2) (q .2)
+
+  -- and without a change of the slot they go on in the second as in the first
+  goes-too : {t u : List ℕ} {past : List Told} → InStep b i t u past → (es : List Call) → Unchanged i es → GoesOn i t es → GoesOn i u es
+  goes-too both [] other p = tt
+  goes-too both (c ∷ es) other p =
+      let go = ends-too both c (other .0) (p .1) in
+      (p .0, go, goes-too (both-step both c (p .0) (p .1) go) es (other .1) (p .2))
 
   -- calls leave the bytes around window and totals
   pub around-on : {t : List ℕ} {past : List Told} → Stands b i t past → (cs : List Call) → GoesOn i t cs → Around (slotOf t i) (slotOf (run t cs) i)
@@ -303,24 +309,23 @@ module _ {b : Beginning} {i : ℕ} {t : List ℕ} (begins : Begins b i t) (keyid
               ∙ entry-settled anew i e (waits .held .long) small (undamaged-entry (slotOf ran i) (unharmed now)) (waits .agrees .framed ∙ sym (now .agrees .framed)));
         }
 
-    -- and after any further calls that do not end the history of the gateway that never stopped, both have gone on alike, do the same for the entry,
-    -- and have handed out the same there.
-    goes-on : (es : List Call) → GoesOn i ran es → Goes (standing (b .keys) (entryOf (slotOf ran i))) i ran (after anew (load text)) [] es
-    goes-on es further = in-step started es further
+    -- and after any further calls that end the history in neither, both do the same for the entry and have handed out the same there;
+    pub restarted-both : (es : List Call) → GoesOn i ran es → GoesOn i (after anew (load text)) es → Resumed (b .keys) i ran (after anew (load text)) es
+    restarted-both es further again = record {
+      goes = again;
+      same = alike (in-step started es further again);
+      hands = hands-on (started .first) es further ∙ sym (hands-on (started .second) es again);
+    }
 
-    pub restarted : (es : List Call) → GoesOn i ran es → Resumed (b .keys) i ran (after anew (load text)) es
-    restarted es further =
-        let g = goes-on es further in record {
-          goes = g .on;
-          same = alike (g .both);
-          hands = hands-on (started .first) es further ∙ sym (hands-on (started .second) es (g .on));
-        }
+    -- so after any that ask for no change of the slot and do not end the history of the gateway that never stopped.
+    pub restarted : (es : List Call) → Unchanged i es → GoesOn i ran es → Resumed (b .keys) i ran (after anew (load text)) es
+    restarted es other further = restarted-both es further (goes-too started es other further)
 
     -- The same of calls that were made.
-    pub restarted-traced : (es : List Call) (rs qs : List Received) → Trace ran es rs → Unended i es rs → Trace (after anew (load text)) es qs
+    pub restarted-traced : (es : List Call) (rs qs : List Received) → Unchanged i es → Trace ran es rs → Unended i es rs → Trace (after anew (load text)) es qs
         → SameFor (b .keys) i (lastOf ran rs) (lastOf (after anew (load text)) qs) × (handedBy i [] es rs ≡ handedBy i [] es qs)
-    restarted-traced es rs qs p unended q =
-        let r = restarted es (subst (Unended i es) (trace-results ran es rs p) unended) in (
+    restarted-traced es rs qs other p unended q =
+        let r = restarted es other (subst (Unended i es) (trace-results ran es rs p) unended) in (
           rw (trace-run ran es rs p, trace-run (after anew (load text)) es qs q) (r .same),
           ap (handedBy i [] es) (trace-results ran es rs p) ∙ r .hands ∙ sym (ap (handedBy i [] es) (trace-results (after anew (load text)) es qs q)),
         )
@@ -366,11 +371,11 @@ module _ (t u : List ℕ) (tl : length t ≡ tableLength) (ul : length u ≡ tab
   is-print : listingOf i (slotOf lasting i) ≡ print
   is-print = sym (rw (prints begins keyid source cs goes out room) (taken-back out (listingOf i (slotOf lasting i))))
 
-  -- The load is answered with the slot. Then, after any further calls that do not end the entry's history in the gateway that never stopped, its replies,
-  -- payloads and totals are the same in both.
-  pub restart : (loaded (run u (install k f ∷ ds)) print .answer ≡ doneAt i) × ((es : List Call) → GoesOn i lasting es → Resumed k i lasting resumed es)
+  -- The load is answered with the slot. Then, after any further calls that ask for no change of the slot and do not end the entry's history in the gateway
+  -- that never stopped, its replies, payloads and totals are the same in both.
+  pub restart : (loaded (run u (install k f ∷ ds)) print .answer ≡ doneAt i) × ((es : List Call) → Unchanged i es → GoesOn i lasting es → Resumed k i lasting resumed es)
   restart =
-      subst (λ (x : List ℕ). (loaded (run u (install k f ∷ ds)) x .answer ≡ doneAt i) × ((es : List Call) → GoesOn i lasting es → Resumed k i lasting (after (run u (install k f ∷ ds)) (load x)) es)) is-print
+      subst (λ (x : List ℕ). (loaded (run u (install k f ∷ ds)) x .answer ≡ doneAt i) × ((es : List Call) → Unchanged i es → GoesOn i lasting es → Resumed k i lasting (after (run u (install k f ∷ ds)) (load x)) es)) is-print
       (ap (λ (z : Left). z .answer) (reloads begins keyid source cs goes again ds on none), restarted begins keyid source cs goes again ds on none)
 
   -- And the slot is, byte for byte, the one that was printed.
@@ -415,8 +420,8 @@ empty-installs t k f i done = by (install-outcome t k f)
 
 -- so an entry that stood in slot 0 resumes from an empty table, an install and a load.
 pub restart-empty : (t : List ℕ) → length t ≡ tableLength → (k : KeyData) (f : Frame) → Bytes (k .keyId) → Bytes (k .source) → installed t k f .answer ≡ doneAt 0
-    → (cs : List Call) → GoesOn 0 (after t (install k f)) cs → (out : List ℕ) → outputRoom ≤ length out → (es : List Call) → GoesOn 0 (run t (install k f ∷ cs)) es
+    → (cs : List Call) → GoesOn 0 (after t (install k f)) cs → (out : List ℕ) → outputRoom ≤ length out → (es : List Call) → Unchanged 0 es → GoesOn 0 (run t (install k f ∷ cs)) es
     → let p = listed (run t (install k f ∷ cs)) 0 out in
     Resumed k 0 (run t (install k f ∷ cs)) (run empty (install k f ∷ load (take (p .answer .length) (p .out)) ∷ [])) es
-restart-empty t long k f keyid source first cs goes out room es further =
-    restart t empty long (length-replicate {A = ℕ} tableLength 0) k f keyid source 0 first (empty-installs t k f 0 first) cs goes [] tt refl out room .1 es further
+restart-empty t long k f keyid source first cs goes out room es other further =
+    restart t empty long (length-replicate {A = ℕ} tableLength 0) k f keyid source 0 first (empty-installs t k f 0 first) cs goes [] tt refl out room .1 es other further

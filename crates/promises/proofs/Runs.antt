@@ -12,13 +12,14 @@ use lib.ListN.{length, length-map}
 use Rattle.format.proofs.Soundness.{Sound}
 use Rattle.slots.specs.Table.{slotOf, tableLength}
 use Rattle.slots.proofs.Damage.{undamaged-sound, undamaged-entry}
+use Rattle.entries.specs.Change.{changed}
 use Rattle.entries.specs.Install.{removed}
-use Rattle.entries.proofs.Outcomes.{Refuses, Frees, remove-outcome, install-length, remove-length}
+use Rattle.entries.proofs.Outcomes.{Refuses, Frees, Changes, remove-outcome, change-outcome, install-length, remove-length, change-length}
 use Rattle.loading.specs.Form.{Listing}
 use Rattle.loading.specs.Load.{loaded}
 use Rattle.loading.proofs.Outcomes.{Takes, load-outcome, load-length}
 use Rattle.gateway.proofs.Cascade.{received-length}
-use Rattle.promises.specs.Calls.{Call, arrival, install, remove, load, OfBytes, AllOfBytes, called, after, run, results, isDone}
+use Rattle.promises.specs.Calls.{Call, arrival, install, remove, change, load, OfBytes, AllOfBytes, called, after, run, results, isDone}
 use Rattle.promises.specs.Counted.{Beginning, Message, Told, messages, told, toldFrom}
 use Rattle.promises.specs.History.{Begins, Handed, handed, noted, handedBy, ends, GoesOn, Spares, SpareAll, countedOf, Accounts}
 use Rattle.promises.proofs.Counting.{grown}
@@ -77,11 +78,12 @@ module _ {b : Beginning} {i : ℕ} where
       exactly (arrival message source out) bytes = arrives now message source out bytes .does .gives
       exactly (install k f) bytes = refl
       exactly (remove j) bytes = refl
+      exactly (change j k f) bytes = refl
       exactly (load text) bytes = refl
 
--- ---- calls that do not ask for the removal of the slot, or have its listing
+-- ---- calls that do not ask for the removal or a change of the slot, or have its listing
 
-spares : (i : ℕ) (t : List ℕ) (c : Call) → Spares i c → ends i c (called t c .answer) ≡ false
+pub spares : (i : ℕ) (t : List ℕ) (c : Call) → Spares i c → ends i c (called t c .answer) ≡ false
 spares i t (arrival message source out) s = refl
 spares i t (install k f) s = refl
 spares i t (remove j) s = by (remove-outcome t j)
@@ -89,6 +91,11 @@ spares i t (remove j) s = by (remove-outcome t j)
     by : Refuses t (removed t j) ⊎ Frees t j → isDone i (removed t j .answer) ≡ false
     by (inl r) = rw (r .is, ne-eqb (r .reply) 0 (λ z. omega (arith, r .some)))
     by (inr f) = rw (f .is, ne-eqb j i s)
+spares i t (change j k f) s = by (change-outcome t j k f)
+  where
+    by : Refuses t (changed t j k f) ⊎ Changes t j k f → isDone i (changed t j k f .answer) ≡ false
+    by (inl r) = rw (r .is, ne-eqb (r .reply) 0 (λ z. omega (arith, r .some)))
+    by (inr c) = rw (c .is, ne-eqb j i s)
 spares i t (load text) s = by (load-outcome t text)
   where
     by : Refuses t (loaded t text) ⊎ ((l : Listing) × Takes t text l) → isDone i (loaded t text .answer) ≡ false
@@ -105,6 +112,7 @@ after-long : (t : List ℕ) → length t ≡ tableLength → (c : Call) → OfBy
 after-long t long (arrival m source out) bytes = received-length t long m source out
 after-long t long (install k f) bytes = install-length t long k f bytes
 after-long t long (remove i) bytes = remove-length t long i
+after-long t long (change i k f) bytes = change-length t long i k f bytes
 after-long t long (load text) bytes = load-length t text long
 
 pub run-long : (t : List ℕ) → length t ≡ tableLength → (cs : List Call) → AllOfBytes cs → length (run t cs) ≡ tableLength

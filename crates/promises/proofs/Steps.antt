@@ -30,22 +30,24 @@ use Rattle.slots.specs.Table.{slotOf, csOf, keyIdLengthOf, sourceLengthOf, entr
 use Rattle.slots.specs.Record.{undamaged}
 use Rattle.slots.proofs.Settled.{Around, settled-keys, settledSlot, length-slot, as-replaced, slot-around, entry-settled}
 use Rattle.slots.proofs.Slots.{slot-length}
-use Rattle.lookup.specs.Lookup.{leadsTo}
+use Rattle.lookup.specs.Lookup.{matches, leadsTo}
 use Rattle.lookup.specs.declared.Found.{Found}
 use Rattle.lookup.specs.declared.Found.the-variants.{At, Nothing}
-use Rattle.lookup.proofs.Firsts.{leads-small, leads-matches, free-small, free-empty}
+use Rattle.lookup.proofs.Firsts.{leads-small, leads-matches, leads-nowhere, elsewhere-nowhere, free-small, free-empty}
 use Rattle.lookup.proofs.Matching.{match-facts, no-match, same-matches}
 use Rattle.entries.specs.Fresh.{freshSlot}
+use Rattle.entries.specs.Change.{changed}
 use Rattle.entries.specs.Install.{installed, removed}
 use Rattle.entries.proofs.Fresh.{length-fresh, fresh-keydata}
-use Rattle.entries.proofs.Outcomes.{Refuses, Enters, Frees, install-outcome, remove-outcome}
+use Rattle.entries.proofs.Installs.{Fair}
+use Rattle.entries.proofs.Outcomes.{Refuses, Enters, Frees, Changes, install-outcome, remove-outcome, change-outcome}
 use Rattle.loading.specs.Form.{Listing}
 use Rattle.loading.specs.Load.{listedEntry, loaded}
 use Rattle.loading.proofs.Outcomes.{Takes, load-outcome}
 use Rattle.gateway.specs.Receive.{Received, kept, handedOut, judged, arrived, led, parsed, received}
 use Rattle.gateway.proofs.Arrivals.{other-suite, by-verdict, wrong-icv, right-icv}
 use Rattle.gateway.proofs.Cascade.{of-arrived}
-use Rattle.promises.specs.Calls.{Call, arrival, install, remove, load, OfBytes, called, after, isDone}
+use Rattle.promises.specs.Calls.{Call, arrival, install, remove, change, load, OfBytes, called, after, isDone}
 use Rattle.promises.specs.Counted.{Beginning, Message, isBelow, isUsed, isOf, Told, apart, below, used, forged, new, tested, toldOf, told}
 use Rattle.promises.specs.History.{replyTo, Handed, nothing, one, countedOf, answered, handed, ends}
 use Rattle.promises.proofs.Counting.{Agrees, verdict-agrees, still-agrees, taken-agrees}
@@ -244,17 +246,19 @@ module _ {b : Beginning} {i : ℕ} {t : List ℕ} {past : List Told} (now : Stan
       passing nothing (replaced t j s) apart refl refl (held-beside held j small s n mild other) (slot-beside held j small s n mild other)
 
   module _ (other : KeyData) (f : Frame) (bytes : Bytes (other .keyId)) where
-    -- a fresh entry that had no twin does not match the key data
-    unlike : {j : ℕ} → Enters t other f j → isNamed k (freshSlot other f) ≡ false
-    unlike n =
+    -- a fresh entry of which the slot is no twin goes into another slot
+    entering : Fair other f → matches (other .flag) (other .keyId) (other .source) (slotOf t i) ≡ false → (j : ℕ) → j < slotCount → (j ≡ i → ⊥)
+        → Does b i t past nothing (replaced t j (freshSlot other f)) apart
+    entering fair unlike j small aside =
+        let sound = sound-facts other (fair .sound) in
+        let differs : isNamed k (freshSlot other f) ≡ false =
         not-eq-not .0
         (λ hit.
-        let sound = sound-facts other (n .fair .sound) in
         let found =
         leads-here held (other .flag) (other .keyId) (other .source)
         (names-back (match-names other (k .flag) (k .keyId) (k .source) (freshSlot other f) (fresh-keydata sound (bytes 0) f) hit)) in
-        let z : _≡_ {A = ℕ} 0 1 = cc in
-        omega arith)
+        true≢false (sym (leads-matches t i (other .flag) (other .keyId) (other .source) found) ∙ unlike)) in
+        replacing j small aside (freshSlot other f) (length-fresh sound (bytes 0) f) differs
 
     installs : Does b i t past nothing (installed t other f .table) apart
     installs = by (install-outcome t other f)
@@ -264,8 +268,19 @@ module _ {b : Beginning} {i : ℕ} {t : List ℕ} {past : List Told} (now : Stan
         by (inr (j, n)) =
             let free = eqb-true (getD (slotOf t j) occupiedAt 0) 0 (not-false (eqb (getD (slotOf t j) occupiedAt 0) 0) (free-empty t j (n .free))) in
             rw (n .is)
-            (replacing j (free-small t j (n .free)) (λ same. held-alike held .held (rw same at free))
-            (freshSlot other f) (length-fresh (sound-facts other (n .fair .sound)) (bytes 0) f) (unlike n))
+            (entering (n .fair) (leads-nowhere t i (other .flag) (other .keyId) (other .source) (n .alone) (held-small held)) j (free-small t j (n .free))
+            (λ same. held-alike held .held (rw same at free)))
+
+    changes : (j : ℕ) → isDone i (changed t j other f .answer) ≡ false → Does b i t past nothing (changed t j other f .table) apart
+    changes j goes = by (change-outcome t j other f)
+      where
+        by : Refuses t (changed t j other f) ⊎ Changes t j other f → Does b i t past nothing (changed t j other f .table) apart
+        by (inl r) = rw (r .is) (passing nothing t apart refl refl held refl)
+        by (inr c) =
+            let aside = eqb-false j i (rw (c .is) at goes) in
+            rw (c .is)
+            (entering (c .fair)
+            (elsewhere-nowhere t i j (other .flag) (other .keyId) (other .source) (c .alone) (held-small held) (λ same. aside (sym same))) j (c .small) aside)
 
   removes : (j : ℕ) → isDone i (removed t j .answer) ≡ false → Does b i t past nothing (removed t j .table) apart
   removes j goes = by (remove-outcome t j)
@@ -292,4 +307,5 @@ module _ {b : Beginning} {i : ℕ} {t : List ℕ} {past : List Told} (now : Stan
   step (arrival m source out) bytes goes = arrives m source out bytes .does
   step (install other f) bytes goes = installs other f bytes
   step (remove j) bytes goes = removes j goes
+  step (change j other f) bytes goes = changes other f bytes j goes
   step (load text) bytes goes = loads text goes

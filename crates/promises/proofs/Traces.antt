@@ -5,7 +5,7 @@ use mathlib.Core.List.{List, [], _∷_, _++_}
 use Prim.Native.Nat.{ℕ}
 use Rattle.answers.specs.declared.Answer.{Answer}
 use Rattle.gateway.specs.Receive.{Received}
-use Rattle.promises.specs.Calls.{Call, arrival, install, remove, load, called, run, results, Allowed, Trace, lastOf}
+use Rattle.promises.specs.Calls.{Call, arrival, install, remove, change, load, called, run, results, Allowed, Trace, lastOf}
 
 same-received : (r q : Received) → r .answer ≡ q .answer → r .table ≡ q .table → r .out ≡ q .out → r ≡ q
 same-received r q a t o =
@@ -18,6 +18,7 @@ pub allowed-called : (t : List ℕ) (c : Call) (r : Received) → Allowed t c r 
 allowed-called t (arrival message source out) r a = same-received r (called t (arrival message source out)) (a .answers) (a .leaves) (a .writes)
 allowed-called t (install k f) r a = same-received r (called t (install k f)) (a .0 .answers) (a .0 .leaves) (a .1)
 allowed-called t (remove i) r a = same-received r (called t (remove i)) (a .0 .answers) (a .0 .leaves) (a .1)
+allowed-called t (change i k f) r a = same-received r (called t (change i k f)) (a .0 .answers) (a .0 .leaves) (a .1)
 allowed-called t (load text) r a = same-received r (called t (load text)) (a .0 .answers) (a .0 .leaves) (a .1)
 
 pub trace-results : (t : List ℕ) (cs : List Call) (rs : List Received) → Trace t cs rs → rs ≡ results t cs
@@ -46,6 +47,7 @@ results-trace t (c ∷ cs) = (called-allowed c, results-trace (called t c .table
     called-allowed (arrival message source out) = record { answers = refl; leaves = refl; writes = refl }
     called-allowed (install k f) = (record { answers = refl; leaves = refl }, refl)
     called-allowed (remove i) = (record { answers = refl; leaves = refl }, refl)
+    called-allowed (change i k f) = (record { answers = refl; leaves = refl }, refl)
     called-allowed (load text) = (record { answers = refl; leaves = refl }, refl)
 
 -- a trace goes on by another that begins where it ended

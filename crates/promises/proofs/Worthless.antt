@@ -12,7 +12,7 @@ use lib.ListN.{length}
 use Rattle.numbers.proofs.Tests.{and-left, and-right}
 use Rattle.answers.specs.declared.Answer.{Answer}
 use Rattle.slots.specs.Table.{slotOf, entryOf}
-use Rattle.promises.specs.Calls.{Call, arrival, install, remove, load, OfBytes, called, isDone}
+use Rattle.promises.specs.Calls.{Call, arrival, install, remove, change, load, OfBytes, called, isDone}
 use Rattle.promises.specs.Counted.{Beginning, Message, Told, new, told}
 use Rattle.promises.specs.History.{nothing, one, answered, countedOf, Accounts}
 
@@ -41,6 +41,7 @@ answered-gives i (arrival m source out) a x e = by (isDone i a) refl e
     by false d e = absurd (nothing-given e)
 answered-gives i (install k f) a x e = absurd (nothing-given e)
 answered-gives i (remove j) a x e = absurd (nothing-given e)
+answered-gives i (change j k f) a x e = absurd (nothing-given e)
 answered-gives i (load text) a x e = absurd (nothing-given e)
 
 module _ {b : Beginning} {i : ℕ} {t : List ℕ} {past : List Told} (a : Accounts b i t past) where

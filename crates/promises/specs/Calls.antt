@@ -9,6 +9,7 @@ use Rattle.octets.specs.Octets.{Bytes}
 use Rattle.answers.specs.declared.Answer.{Answer}
 use Rattle.window.specs.declared.Frame.{Frame}
 use Rattle.format.specs.KeyData.{KeyData}
+use Rattle.entries.specs.Change.{changed}
 use Rattle.entries.specs.Install.{Left, IsLeft, installed, removed}
 use Rattle.loading.specs.Load.{loaded}
 use Rattle.gateway.specs.Receive.{Received, IsReceived, received}
@@ -20,6 +21,8 @@ pub data Call : Type 0 where
   install : KeyData → Frame → Call
   -- a slot
   remove : ℕ → Call
+  -- a slot, and the key data and frame that its entry is to have (02, No. 7)
+  change : ℕ → KeyData → Frame → Call
   -- the text of a listing
   load : List ℕ → Call
 
@@ -28,6 +31,7 @@ abbrev pub OfBytes : Call → Type 0
 OfBytes (arrival message source out) = Bytes message
 OfBytes (install k f) = Bytes (k .keyId)
 OfBytes (remove i) = Unit {0}
+OfBytes (change i k f) = Bytes (k .keyId)
 OfBytes (load text) = Unit {0}
 
 abbrev pub AllOfBytes : List Call → Type 0
@@ -36,7 +40,7 @@ AllOfBytes (c ∷ cs) = OfBytes c × AllOfBytes cs
 
 -- ---- what a call leaves
 
--- "Install and remove write no buffer": none is lent to them, nor to a load
+-- "Install and remove write no buffer": none is lent to them, nor to a change or a load
 abbrev pub unwritten : Left → Received
 unwritten l = record { answer = l .answer; table = l .table; out = [] }
 
@@ -45,6 +49,7 @@ abbrev pub called : List ℕ → Call → Received
 called t (arrival message source out) = received t message source out
 called t (install k f) = unwritten (installed t k f)
 called t (remove i) = unwritten (removed t i)
+called t (change i k f) = unwritten (changed t i k f)
 called t (load text) = unwritten (loaded t text)
 
 -- the table after a call, the table after several, and what came back from each of them
@@ -70,6 +75,7 @@ abbrev pub Allowed : List ℕ → Call → Received → Type 0
 Allowed t (arrival message source out) r = IsReceived (received t message source out) (r .answer) (r .table) (r .out)
 Allowed t (install k f) r = IsLeft (installed t k f) (r .answer) (r .table) × (r .out ≡ [])
 Allowed t (remove i) r = IsLeft (removed t i) (r .answer) (r .table) × (r .out ≡ [])
+Allowed t (change i k f) r = IsLeft (changed t i k f) (r .answer) (r .table) × (r .out ≡ [])
 Allowed t (load text) r = IsLeft (loaded t text) (r .answer) (r .table) × (r .out ≡ [])
 
 -- calls, each on the table that the one before it left, and what came back from them

@@ -10,7 +10,7 @@ use Rattle.answers.specs.declared.Answer.{Answer}
 use Rattle.gateway.specs.Receive.{Received}
 use Rattle.capture.specs.Capture.{Item, recordsOf}
 use Rattle.feed.specs.Report.{blank, turnOf}
-use Rattle.promises.specs.Calls.{Call, arrival, install, remove, load}
+use Rattle.promises.specs.Calls.{Call, arrival, install, remove, change, load}
 
 -- the calls of some records, and of a file: an arrival for each record that can be read, with an output of zeros
 abbrev pub callsOf : List Item → List Call
@@ -25,6 +25,7 @@ abbrev pub Arrives : Call → Type 0
 Arrives (arrival message source out) = Bytes message
 Arrives (install k f) = ⊥
 Arrives (remove i) = ⊥
+Arrives (change i k f) = ⊥
 Arrives (load text) = ⊥
 
 abbrev pub AllArrive : List Call → Type 0

@@ -18,7 +18,7 @@ use Rattle.message.specs.Sealing.{right}
 use Rattle.format.specs.declared.header.Header.{Header}
 use Rattle.format.specs.declared.header.Parsed.{Parsed}
 use Rattle.format.specs.declared.header.Parsed.the-variants.{Read, BadLength, BadVersion, BadSuite, TooShort}
-use Rattle.promises.specs.Calls.{Call, arrival, install, remove, load}
+use Rattle.promises.specs.Calls.{Call, arrival, install, remove, change, load}
 
 -- ---- where a history begins
 
@@ -31,7 +31,7 @@ pub record Beginning : Type 0 where
   pub accepted : ℕ
   pub bytes : ℕ
 
--- an install's: "A fresh entry has highest 0, no mark, totals 0."
+-- an install's: "A fresh entry has highest 0, no mark, totals 0." A change's is the same (02, No. 7: "demand 3 reads it as a removal and an install")
 abbrev pub fresh : KeyData → Frame → Beginning
 fresh k f = record { keys = k; frame = f; highest = 0; used = λ n. false; accepted = 0; bytes = 0 }
 
@@ -134,6 +134,7 @@ abbrev pub told : Beginning → List Told → Call → Told
 told b past (arrival message source out) = cond (ltb (length out) outputRoom) apart (toldOf b past (readOf message) message source)
 told b past (install k f) = apart
 told b past (remove i) = apart
+told b past (change i k f) = apart
 told b past (load text) = apart
 
 -- the past after further calls, and after all calls since the beginning
@@ -167,6 +168,7 @@ isCounted b past (arrival message source out) =
     && not (isUsed b past (seqNumIn message))
 isCounted b past (install k f) = false
 isCounted b past (remove i) = false
+isCounted b past (change i k f) = false
 isCounted b past (load text) = false
 
 abbrev pub isNew : Told → Bool

@@ -1,6 +1,6 @@
 -- Demand 3, of a slot of a table: "Exactly the counted messages are handed out, and after each call the entry's two totals are how many
 -- different numbers were counted and the sum of their payload lengths." A history begins with any undamaged entry, a fresh one or one that
--- has a past, and goes on until the entry is removed or takes a listing.
+-- has a past, and goes on until the entry is removed or changed, or takes a listing.
 use mathlib.Core.Path.{_≡_}
 use mathlib.Core.Bool.{Bool, true, false, cond}
 use mathlib.Core.List.{List, [], _∷_}
@@ -21,7 +21,7 @@ use Rattle.lookup.specs.Lookup.{leadsTo}
 use Rattle.lookup.specs.declared.Found.the-variants.{At}
 use Rattle.loading.specs.Form.{Listing, listingIn}
 use Rattle.gateway.specs.Receive.{Received}
-use Rattle.promises.specs.Calls.{Call, arrival, install, remove, load, OfBytes, called, run, results, isDone}
+use Rattle.promises.specs.Calls.{Call, arrival, install, remove, change, load, OfBytes, called, run, results, isDone}
 use Rattle.promises.specs.Counted.{Beginning, Message, Told, apart, below, used, forged, new, messages, numbersOf, numbers, isIn, highestSince, isOf, told}
 
 -- ---- where a history begins in a table
@@ -41,12 +41,13 @@ pub record Begins (b : Beginning) (i : ℕ) (t : List ℕ) : Type 0 where
 
 -- ---- how long it goes on, by what came back
 
--- "a removed entry's history is over": a removal that is done at slot i ends it, and so does a load there, which "begins a new history" (02, No. 6);
--- one that is refused does not
+-- "a removed entry's history is over": a removal that is done at slot i ends it, and so do a load there, which "begins a new history" (02, No. 6), and
+-- a change, which demand 3 reads "as a removal and an install" (02, No. 7); one that is refused does not
 abbrev pub ends : ℕ → Call → Answer → Bool
 ends i (arrival message source out) a = false
 ends i (install k f) a = false
 ends i (remove j) a = isDone i a
+ends i (change j k f) a = isDone i a
 ends i (load text) a = isDone i a
 
 -- calls of bytes, none of which ended it
@@ -58,11 +59,12 @@ Unended i [] rs = Unit {0}
 abbrev pub GoesOn : ℕ → List ℕ → List Call → Type 0
 GoesOn i t cs = Unended i cs (results t cs)
 
--- calls of bytes of which none asks for the removal of slot i, or has its listing, do not end it in any table (`spared`)
+-- calls of bytes of which none asks for the removal or a change of slot i, or has its listing, do not end it in any table (`spared`)
 abbrev pub Spares : ℕ → Call → Type 0
 Spares i (arrival message source out) = Unit {0}
 Spares i (install k f) = Unit {0}
 Spares i (remove j) = j ≡ i → ⊥
+Spares i (change j k f) = j ≡ i → ⊥
 Spares i (load text) = (l : Listing) → listingIn text ≡ some l → l .settled .named .slot ≡ i → ⊥
 
 abbrev pub SpareAll : ℕ → List Call → Type 0
@@ -80,6 +82,7 @@ abbrev pub answered : ℕ → Call → Answer → Handed
 answered i (arrival message source out) a = cond (isDone i a) (one (record { number = a .seqnum; payload = a .length })) nothing
 answered i (install k f) a = nothing
 answered i (remove j) a = nothing
+answered i (change j k f) a = nothing
 answered i (load text) a = nothing
 
 abbrev pub handed : ℕ → List ℕ → Call → Handed
@@ -155,6 +158,18 @@ pub record SameFor (k : KeyData) (i : ℕ) (t u : List ℕ) : Type 0 where
   pub hands : (c : Call) → OfBytes c → handed i t c ≡ handed i u c
   pub answers : (message source out : List ℕ) → Bytes message → (h : Header) → readOf message ≡ Read h → isOf k h message source ≡ true
       → let a = called t (arrival message source out) in let b = called u (arrival message source out) in (a .answer ≡ b .answer) × (a .out ≡ b .out)
+
+-- No change of slot i is asked for: whether one is refused hangs on the names in the other slots, which two tables need not share.
+abbrev pub NoChangeOf : ℕ → Call → Type 0
+NoChangeOf i (arrival message source out) = Unit {0}
+NoChangeOf i (install k f) = Unit {0}
+NoChangeOf i (remove j) = Unit {0}
+NoChangeOf i (change j k f) = j ≡ i → ⊥
+NoChangeOf i (load text) = Unit {0}
+
+abbrev pub Unchanged : ℕ → List Call → Type 0
+Unchanged i [] = Unit {0}
+Unchanged i (c ∷ cs) = NoChangeOf i c × Unchanged i cs
 
 -- A gateway with table u resumes what one with table t would have gone on with: further calls that do not end the entry's history there do not end it here,
 -- after them both do the same for the entry, and what they handed out at it is the same.

@@ -1,4 +1,4 @@
--- Each reply's own case (01, "Replies"; 02, No. 1, 2, 4 and 6), and the rule that joins them: the first that fits, in the listed order, is given; where none fits, 0.
+-- Each reply's own case (01, "Replies"; 02, No. 1, 2, 4, 6 and 7), and the rule that joins them: the first that fits, in the listed order, is given; where none fits, 0.
 use mathlib.Core.Path.{_≡_}
 use mathlib.Core.Bool.{Bool, true, false, cond, not, _||_, _&&_}
 use mathlib.Core.List.{List, [], _∷_}
@@ -21,7 +21,7 @@ use Rattle.format.specs.declared.suite.Suite.{Suite}
 use Rattle.format.specs.declared.suite.Numbered.{Numbered}
 use Rattle.format.specs.declared.suite.Numbered.the-variants.{Known, Unknown}
 use Rattle.slots.specs.Table.{slotOf, occupied, csOf, windowOf, slotCount, keyDataOf}
-use Rattle.lookup.specs.Lookup.{leadsTo, firstFree}
+use Rattle.lookup.specs.Lookup.{leadsTo, leadsElsewhere, firstFree}
 use Rattle.slots.specs.Record.{undamaged}
 use Rattle.lookup.specs.declared.Found.{Found}
 use Rattle.lookup.specs.declared.Found.the-variants.{At, Nothing}
@@ -141,7 +141,7 @@ receiveReplies t m source out =
     ∷ reply 11 (not (rightIn (readOf m) s m))
     ∷ []
 
--- ---- install and remove
+-- ---- install, remove and change
 
 unfoldable pub installReplies : List ℕ → KeyData → Frame → List Reply
 installReplies t k f =
@@ -158,6 +158,16 @@ unfoldable pub removeReplies : List ℕ → ℕ → List Reply
 removeReplies t i =
     -- slot over 15, or free
     reply 16 (not (ltb i slotCount && occupied (slotOf t i)))
+    ∷ []
+
+unfoldable pub changeReplies : List ℕ → ℕ → KeyData → Frame → List Reply
+changeReplies t i k f =
+    -- slot over 15, or free
+    reply 16 (not (ltb i slotCount && occupied (slotOf t i)))
+    -- key data unsound, Size and start with it
+    ∷ reply 13 (not (soundOf k && soundFrame f))
+    -- another occupied slot has the same flag and KeyId and, for flag 1, source
+    ∷ reply 14 (not (isNothing (leadsElsewhere t i (k .flag) (k .keyId) (k .source))))
     ∷ []
 
 -- ---- listing
