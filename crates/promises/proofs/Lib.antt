@@ -2,6 +2,7 @@ pub mod Arrivals
 pub mod Beginnings
 pub mod Captures
 pub mod Cases
+pub mod Changes
 pub mod Counting
 pub mod Determined
 pub mod Genuine

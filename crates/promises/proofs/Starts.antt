@@ -104,20 +104,30 @@ pub handed-from-start : {b : Beginning} {i : ℕ} {t : List ℕ} → Begins b i 
 handed-from-start {b} begins cs rs trace unended n there =
     all-above b [] (λ m e. absurd (true≢false (sym e))) cs n (rw (history-traced begins cs rs trace unended .1) at there)
 
+-- Of what was handed out elsewhere, at any gateways and under any histories, nothing is handed out where a history begins with a start above its numbers;
+pub start-above : {c : Beginning} {j : ℕ} {u : List ℕ} → Begins c j u → (ds : List Call) (qs : List Received) → Trace u ds qs → Unended j ds qs
+    → (elsewhere : List Message) → ((n : ℕ) → isIn n (numbersOf elsewhere) ≡ true → n < c .frame .start) → NotAgain elsewhere (handedBy j [] ds qs)
+start-above begins ds qs made going elsewhere lower n there =
+    not-eq-not .0 (λ here. omega (arith, lower n there, handed-from-start begins ds qs made going n here))
+
+-- nothing, then, of what calls cs handed out at an entry whose highest number after them is below the start.
+pub start-above-highest : {c : Beginning} {j : ℕ} {u : List ℕ} → Begins c j u → (ds : List Call) (qs : List Received) → Trace u ds qs → Unended j ds qs
+    → {b : Beginning} {i : ℕ} {t : List ℕ} → Begins b i t → (cs : List Call) (rs : List Received) → Trace t cs rs → Unended i cs rs
+    → windowOf (slotOf (lastOf t rs) i) .highest < c .frame .start → NotAgain (handedBy i [] cs rs) (handedBy j [] ds qs)
+start-above-highest here ds qs made going {b} {i} begins cs rs trace unended above =
+    let first = history-traced begins cs rs trace unended in
+    start-above here ds qs made going (handedBy i [] cs rs) (rw (first .1) (λ n e. omega (arith, counted-most n (numbers (toldBy b cs)) e, above, first .0 .highest)))
+
 -- ---- a key that moves
 
 -- A gateway installs key data with a start and makes calls ds.
 module _ (u : List ℕ) (long : length u ≡ tableLength) (k : KeyData) (f : Frame) (bytes : Bytes (k .keyId)) (j : ℕ)
     (r : Received) (ds : List Call) (qs : List Received) (made : Trace u (install k f ∷ ds) (r ∷ qs)) (done : r .answer ≡ doneAt j) (going : Unended j ds qs) where
-  -- Of what was handed out elsewhere, at any gateways and under any histories, nothing is handed out here, if the start lies above its numbers;
+  -- With a start above the numbers of what was handed out elsewhere, nothing of that is handed out here;
   pub moved-key : (elsewhere : List Message) → ((n : ℕ) → isIn n (numbersOf elsewhere) ≡ true → n < f .start) → NotAgain elsewhere (handedBy j [] ds qs)
-  moved-key elsewhere lower n there =
-      not-eq-not .0
-      (λ here. omega (arith, lower n there, handed-from-start (installed-begins u long k f bytes j r (made .0) done) ds qs (made .1) going n here))
+  moved-key = start-above (installed-begins u long k f bytes j r (made .0) done) ds qs (made .1) going
 
   -- nothing, then, of what calls cs handed out at an entry whose highest number after them is below the start.
   pub moved-highest : {b : Beginning} {i : ℕ} {t : List ℕ} → Begins b i t → (cs : List Call) (rs : List Received) → Trace t cs rs → Unended i cs rs
       → windowOf (slotOf (lastOf t rs) i) .highest < f .start → NotAgain (handedBy i [] cs rs) (handedBy j [] ds qs)
-  moved-highest {b} {i} begins cs rs trace unended above =
-      let first = history-traced begins cs rs trace unended in
-      moved-key (handedBy i [] cs rs) (rw (first .1) (λ n e. omega (arith, counted-most n (numbers (toldBy b cs)) e, first .0 .highest)))
+  moved-highest = start-above-highest (installed-begins u long k f bytes j r (made .0) done) ds qs (made .1) going
