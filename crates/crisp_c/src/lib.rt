@@ -1,7 +1,8 @@
-// The gateway, the sender and the records of captures for C: eight functions over the proved ones, with the same contracts. include/crisp.h declares
+// The gateway, the sender and the records of captures for C: nine functions over the proved ones, with the same contracts. include/crisp.h declares
 // and documents them.
 ghost use mathlib.Core.Path.{_≡_};
 ghost use Rattle.format.specs.KeyData.{handedIn};
+ghost use Rattle.entries.specs.Change.{changed};
 ghost use Rattle.entries.specs.Install.{IsLeft, installed, removed};
 ghost use Rattle.listing.specs.Listing.{IsListed, listed};
 ghost use Rattle.loading.specs.Load.{loaded};
@@ -40,6 +41,36 @@ pub extern "C" fn crisp_remove(table: &mut [u8; TABLE], slot: usize) -> Answer
     ensures { λ r. ⌜ IsLeft (removed (now (table .entry)) slot) r (now (table .exit)) ⌝ }
 {
     entries::remove(table, slot)
+}
+
+// As `entries::change`.
+#[no_mangle]
+pub extern "C" fn crisp_change(
+    table: &mut [u8; TABLE],
+    slot: usize,
+    flag: u8,
+    keyid: &[u8],
+    source: &[u8],
+    suite: u8,
+    edition: u8,
+    key: &[u8],
+    size: u64,
+    start: u64,
+) -> Answer
+    ensures { λ r. ⌜ IsLeft (changed (now (table .entry)) slot (handedIn flag (now (keyid .entry)) (now (source .entry)) suite edition (now (key .entry))) (record { size = size; start = start })) r (now (table .exit)) ⌝ }
+{
+    entries::change(
+        table,
+        slot,
+        flag,
+        keyid,
+        source,
+        suite,
+        edition,
+        key,
+        size,
+        start,
+    )
 }
 
 // As `gateway::receive`.

@@ -1,4 +1,4 @@
-// Entries put into the table, changed and taken out.
+// Entries put into the table and taken out, and what is asked before.
 ghost use mathlib.Core.Path.{_≡_};
 ghost use mathlib.Core.Bool.{_&&_};
 ghost use lib.Dec.{ltb};
@@ -6,7 +6,6 @@ ghost use lib.ListN.{length};
 ghost use Rattle.format.specs.KeyData.{keyed, soundOf};
 ghost use Rattle.window.specs.Window.{soundFrame};
 ghost use Rattle.slots.specs.Table.{tableLength, slotCount, slotOf, occupied};
-ghost use Rattle.entries.specs.Change.{changed};
 ghost use Rattle.entries.specs.Install.{doneAt, IsLeft, installed, removed};
 use crate::filling;
 use answers::Answer;
@@ -55,35 +54,8 @@ pub(crate) fn remove_in(table: &mut [u8], slot: usize) -> Answer
     done_at(slot)
 }
 
-// Replies 16, 13 and 14 in that order; else a fresh entry in the slot.
-pub(crate) fn change_in(
-    table: &mut [u8],
-    slot: usize,
-    terms: Terms,
-    keyid: &[u8],
-    source: &[u8],
-    key: &[u8],
-    frame: Frame,
-) -> Answer
-    requires { ⌜ length (now table) ≡ tableLength ⌝ }
-    ensures { λ r. ⌜ IsLeft (changed (now (table .entry)) slot (keyed terms (now (keyid .entry)) (now (source .entry)) (now (key .entry))) frame) r (now (table .exit)) ⌝ }
-{
-    if !held(table, slot) {
-        return answers::refuse(answers::NO_SLOT);
-    }
-    if !fair(terms, keyid, source, key, frame) {
-        return answers::refuse(answers::UNSOUND);
-    }
-    let twin = lookup::leads_elsewhere(table, slot, terms.flag, keyid, source);
-    let Found::Nothing = twin else {
-        return answers::refuse(answers::TWIN);
-    };
-    filling::write_entry(table, slot, terms, keyid, source, key, frame);
-    done_at(slot)
-}
-
 // Whether there is such a slot and it is occupied: if not, 16.
-fn held(table: &[u8], slot: usize) -> bool
+pub(crate) fn held(table: &[u8], slot: usize) -> bool
     requires { ⌜ length (now table) ≡ tableLength ⌝ }
     ensures { λ r. ⌜ r ≡ (ltb slot slotCount && occupied (slotOf (now (table .entry)) slot)) ⌝ }
 {
@@ -94,7 +66,7 @@ fn held(table: &[u8], slot: usize) -> bool
 }
 
 // Whether key data, Size and start are sound: if not, 13.
-fn fair(terms: Terms, keyid: &[u8], source: &[u8], key: &[u8], frame: Frame) -> bool
+pub(crate) fn fair(terms: Terms, keyid: &[u8], source: &[u8], key: &[u8], frame: Frame) -> bool
     ensures { λ r. ⌜ r ≡ (soundOf (keyed terms (now (keyid .entry)) (now (source .entry)) (now (key .entry))) && soundFrame frame) ⌝ }
 {
     if !key_data::sound(terms, keyid, source, key) {
@@ -104,7 +76,7 @@ fn fair(terms: Terms, keyid: &[u8], source: &[u8], key: &[u8], frame: Frame) -> 
 }
 
 // Done at a slot.
-fn done_at(slot: usize) -> Answer
+pub(crate) fn done_at(slot: usize) -> Answer
     ensures { λ r. ⌜ r ≡ doneAt slot ⌝ }
 {
     Answer {

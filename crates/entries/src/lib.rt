@@ -7,8 +7,9 @@ use format::key_data::Terms;
 use slots::layout::TABLE;
 use window::Frame;
 
+mod changing; // changing.rt: an entry changed in its slot
 mod filling; // filling.rt: a fresh entry's slot, written
-mod installing; // installing.rt: entries put into the table, changed and taken out
+mod installing; // installing.rt: entries put into the table and taken out, and what is asked before
 
 // A fresh entry takes the lowest free slot, and will take no number below its start. Refuses with 13 (key data, Size or start unsound), 14 (an
 // occupied slot has the same flag and KeyId and, for flag 1, source) and 15 (no free slot), in that order.
@@ -63,5 +64,5 @@ pub fn change(
         edition,
     };
     let frame = Frame { size, start };
-    installing::change_in(table, slot, terms, keyid, source, key, frame)
+    changing::change_in(table, slot, terms, keyid, source, key, frame)
 }

@@ -37,7 +37,7 @@ use Rattle.lookup.proofs.Firsts.{leads-small, leads-matches, leads-nowhere, els
 use Rattle.lookup.proofs.Matching.{match-facts, no-match, same-matches}
 use Rattle.entries.specs.Fresh.{freshSlot}
 use Rattle.entries.specs.Change.{changed}
-use Rattle.entries.specs.Install.{installed, removed}
+use Rattle.entries.specs.Install.{Left, doneAt, installed, removed}
 use Rattle.entries.proofs.Fresh.{length-fresh, fresh-keydata}
 use Rattle.entries.proofs.Installs.{Fair}
 use Rattle.entries.proofs.Outcomes.{Refuses, Enters, Frees, Changes, install-outcome, remove-outcome, change-outcome}
@@ -239,6 +239,10 @@ module _ {b : Beginning} {i : ℕ} {t : List ℕ} {past : List Told} (now : Stan
 
   -- ---- any other call
 
+  -- a call that is done at a slot, and would end the history there, was done at another
+  elsewhere-done : (c : Call) → ends i c (doneAt i) ≡ true → (j : ℕ) → ends i c (doneAt j) ≡ false → j ≡ i → ⊥
+  elsewhere-done c over j goes same = true≢false (sym over ∙ subst (λ (x : ℕ). ends i c (doneAt x) ≡ false) same goes)
+
   -- another slot takes what does not match
   replacing : (j : ℕ) → j < slotCount → (j ≡ i → ⊥) → (s : List ℕ) → length s ≡ slotLength → isNamed k s ≡ false → Does b i t past nothing (replaced t j s) apart
   replacing j small other s n differs =
@@ -271,28 +275,29 @@ module _ {b : Beginning} {i : ℕ} {t : List ℕ} {past : List Told} (now : Stan
             (entering (n .fair) (leads-nowhere t i (other .flag) (other .keyId) (other .source) (n .alone) (held-small held)) j (free-small t j (n .free))
             (λ same. held-alike held .held (rw same at free)))
 
-    changes : (j : ℕ) → isDone i (changed t j other f .answer) ≡ false → Does b i t past nothing (changed t j other f .table) apart
+    changes : (j : ℕ) → ends i (change j other f) (changed t j other f .answer) ≡ false → Does b i t past nothing (changed t j other f .table) apart
     changes j goes = by (change-outcome t j other f)
       where
         by : Refuses t (changed t j other f) ⊎ Changes t j other f → Does b i t past nothing (changed t j other f .table) apart
         by (inl r) = rw (r .is) (passing nothing t apart refl refl held refl)
         by (inr c) =
-            let aside = eqb-false j i (rw (c .is) at goes) in
+            let aside =
+            elsewhere-done (change j other f) (eq-eqb i i refl) j (sym (ap (λ (l : Left). ends i (change j other f) (l .answer)) (c .is)) ∙ goes) in
             rw (c .is)
             (entering (c .fair)
             (elsewhere-nowhere t i j (other .flag) (other .keyId) (other .source) (c .alone) (held-small held) (λ same. aside (sym same))) j (c .small) aside)
 
-  removes : (j : ℕ) → isDone i (removed t j .answer) ≡ false → Does b i t past nothing (removed t j .table) apart
+  removes : (j : ℕ) → ends i (remove j) (removed t j .answer) ≡ false → Does b i t past nothing (removed t j .table) apart
   removes j goes = by (remove-outcome t j)
     where
       by : Refuses t (removed t j) ⊎ Frees t j → Does b i t past nothing (removed t j .table) apart
       by (inl r) = rw (r .is) (passing nothing t apart refl refl held refl)
       by (inr f) =
           rw (f .is)
-          (replacing j (f .small) (eqb-false j i (rw (f .is) at goes)) emptySlot (length-replicate {A = ℕ} slotLength 0)
+          (replacing j (f .small) (elsewhere-done (remove j) (eq-eqb i i refl) j (sym (ap (λ (l : Left). ends i (remove j) (l .answer)) (f .is)) ∙ goes)) emptySlot (length-replicate {A = ℕ} slotLength 0)
           (sym (no-match (k .flag) (k .keyId) (k .source) emptySlot (λ a. a .held refl))))
 
-  loads : (text : List ℕ) → isDone i (loaded t text .answer) ≡ false → Does b i t past nothing (loaded t text .table) apart
+  loads : (text : List ℕ) → ends i (load text) (loaded t text .answer) ≡ false → Does b i t past nothing (loaded t text .table) apart
   loads text goes = by (load-outcome t text)
     where
       by : Refuses t (loaded t text) ⊎ ((l : Listing) × Takes t text l) → Does b i t past nothing (loaded t text .table) apart
@@ -300,7 +305,8 @@ module _ {b : Beginning} {i : ℕ} {t : List ℕ} {past : List Told} (now : Stan
       by (inr (l, n)) =
           let j = l .settled .named .slot in
           let alike = n .stands .named .alike in
-          let aside = settled-aside j (n .small) (listedEntry l) (alike .keyid-short) (alike .source-short) (eqb-false j i (rw (n .is) at goes)) in
+          let other = elsewhere-done (load text) (eq-eqb i i refl) j (sym (ap (λ (x : Left). ends i (load text) (x .answer)) (n .is)) ∙ goes) in
+          let aside = settled-aside j (n .small) (listedEntry l) (alike .keyid-short) (alike .source-short) other in
           rw (n .is) (passing nothing (settled t j (listedEntry l)) apart refl refl (aside .0) (aside .1))
 
   pub step : (c : Call) → OfBytes c → ends i c (called t c .answer) ≡ false → Does b i t past (handed i t c) (after t c) (told b past c)

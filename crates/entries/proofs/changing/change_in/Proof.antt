@@ -1,4 +1,4 @@
--- `entries::installing::change_in` meets its contract, by the test that led to each answer. Assumes nothing.
+-- `entries::changing::change_in` meets its contract, by the test that led to each answer. Assumes nothing.
 use mathlib.Core.Path.{_≡_, refl, sym, ap, _∙_}
 use mathlib.Core.Bool.{true, _&&_}
 use mathlib.Core.List.{List}
@@ -18,8 +18,8 @@ use Rattle.entries.proofs.Bounds.{keyid-most}
 use Rattle.entries.proofs.Changes.{changes-not, changes-unfair, changes, changes-alone}
 use Rattle.entries.proofs.Installs.{is-left, fair-facts}
 use Rattle.entries.proofs.Removing.{held-small}
-use Rattle.entries.proofs.installing.change_in.Statement.{statement}
-use Rattle.entries.proofs.installing.change_in.Tie as tie
+use Rattle.entries.proofs.changing.change_in.Statement.{statement}
+use Rattle.entries.proofs.changing.change_in.Tie as tie
 
 abbrev start : tie.After-held → tie.Start
 start c = c .before .before .before .before .before .before
