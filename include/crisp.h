@@ -1,13 +1,14 @@
 /* crisp.h: the receiver and the sender for the metering messages of a heat network (R 1323565.1.029-2019: its suites 1 and 2, and two of the house,
  * 241 and 242, with a longer check value), for C and C++ on x86-64.
  *
- * `./install PREFIX` builds libcrisp_c.a and puts it below PREFIX with this header and a pkg-config file, `crisp`. The eight functions are proved;
+ * `./install PREFIX` builds libcrisp_c.a and puts it below PREFIX with this header and a pkg-config file, `crisp`. The nine functions are proved;
  * what each answers, what it leaves in the table or the record, and every byte of a buffer it was lent are those of one definition of its inputs
  * (docs/PROMISES.md).
  *
  * All functions: no input has to be checked first, and every call returns. Those on a table or a record answer a refusal by its number, with
  * length, slot and seqnum 0, and it changes nothing: not the table, not the record, not the output. One table or one record is used by one call at a time; there is no other
- * state, so different tables may be used at once. Keys are handed in as bytes and are copied into the table; a removed entry leaves zeros.
+ * state, so different tables may be used at once. Keys are handed in as bytes and are copied into the table; a removed entry leaves zeros, and a
+ * changed one nothing.
  *
  * Pointers: each points to as many bytes as its length says, at any address; a record is aligned as its type is. None may be null, not even with
  * length 0: CRISP_NOTHING is there for that. A buffer that a call writes must not overlap another one that it is lent. Nothing is promised of a
@@ -29,7 +30,7 @@ extern "C" {
 
 /* The interface's version, 100 times the major one plus the minor one: the first is raised where a call of before has to be written anew or means
  * something else, the second where something was added. */
-#define CRISP_VERSION 302
+#define CRISP_VERSION 303
 
 /* The version of the two layouts, the table's and the record's, raised where a place moves or gets another meaning. Keep it beside a saved table or
  * record: another layout's bytes are read as something else.
@@ -42,8 +43,8 @@ extern "C" {
  * it has another start, which that version does not look at.
  *
  * Suites 241 and 242 came with version 3.1 and moved nothing. Back in version 3.0 or earlier they are unsound: an entry or a record with one of them is
- * refused there with 7, and a message of theirs with 4. crisp_load came with version 3.2 and moved nothing either: a table that it has written to can be
- * used by version 3.1. */
+ * refused there with 7, and a message of theirs with 4. crisp_load came with version 3.2 and crisp_change with 3.3, and neither moved anything: a table
+ * that crisp_load has written to can be used by version 3.1, and one that crisp_change has written to by version 3.2. */
 #define CRISP_LAYOUT 2
 
 /* Bytes of a table, and its slots. A table of zeros is an empty one. It may be kept and saved as it is (see "Keys" below). Any bytes are safe to
@@ -114,7 +115,7 @@ enum {
     CRISP_WRONG_ICV = 11,       /* check value wrong; of all messages of a controller: its entry has another key or another edition */
     CRISP_NO_NUMBER = 12,       /* the sender has used number 2^48 - 1 */
     CRISP_UNSOUND = 13,         /* key data (its edition is part of it), window size or start unsound */
-    CRISP_TWIN = 14,            /* an occupied slot has the same flag and KeyId and, for flag 1, source */
+    CRISP_TWIN = 14,            /* an occupied slot, of a change another one, has the same flag and KeyId and, for flag 1, source */
     CRISP_FULL = 15,            /* no free slot */
     CRISP_NO_SLOT = 16,         /* slot over 15, or free */
     CRISP_BAD_CAPTURE = 17,     /* a capture's header is bad, or its size is not 24 to 65,536 bytes */
@@ -217,26 +218,54 @@ CRISP_CHECK(crisp_record_is_laid_out_as_in_the_library,
  * slot), in that order. Touches no other slot.
  *
  * edition is 2, and 1 for one of the older controllers that read LSB. A message does not tell it. Where an entry has the wrong one, every message of
- * its controller is refused with 11, as if the key were wrong: remove the entry and install it with the other edition. Only where the top and the
+ * its controller is refused with 11, as if the key were wrong: change the entry to the other edition (crisp_change). Only where the top and the
  * low 35 bits of its number are the same does a message pass, for both editions then make the same one: this is so of 8,192 of the 2^48 numbers,
- * 0 and CRISP_LAST among them. If one has passed, the entry has a past, and the new one a start, as follows.
+ * 0 and CRISP_LAST among them. If one has passed, the key has a past, and its new entry a start, as follows.
  *
- * start is for a key that has a past. For a key that is used for the first time it is 0. For a key that comes from another gateway, or whose entry
- * was removed and is installed again, it is the larger of two numbers of the old entry: its start, and one more than its highest number (`start=`, in
- * decimal, and `highest=`, in hex, of a listing that was made after its last arrival). Then nothing that was handed out there is handed out here.
- * Left at 0 on a replacement gateway, the whole archive passes once more: each old message is genuine, its number is new to this table, and it is
- * booked a second time. A message below start that the old entry never took is refused too (9), so let the old gateway first take what is under
- * way. Where its highest number is not known, or is CRISP_LAST, take a new key. Where the entry comes into its old slot with its old size and start,
- * crisp_load does better with the same listing: the window comes along, and what is under way still passes. */
+ * start is for a key that has a past. For a key that is used for the first time it is 0. For a key that comes from another gateway, whose entry was
+ * removed and is installed again, or that stays where its entry is changed, it is the larger of two numbers of the old entry: its start, and one more
+ * than its highest number (`start=`, in decimal, and `highest=`, in hex, of a listing that was made after its last arrival). Then nothing that was
+ * handed out there is handed out here.
+ * Left at 0, on a replacement gateway or in the same one, the whole archive passes once more: each old message is genuine, its number is new to the
+ * fresh entry, and it is booked a second time. A message below start that the old entry never took is refused too (9), so let the old one first take
+ * what is under way. Where its highest number is not known, or is CRISP_LAST, take a new key. Where the entry comes into its old slot with its old
+ * size and start, crisp_load does better with the same listing: the window comes along, and what is under way still passes. */
 CRISP_CALL CRISP_READS(3, 4) CRISP_READS(5, 6) CRISP_READS(9, 10)
 struct crisp_answer crisp_install(uint8_t table[CRISP_AT_LEAST CRISP_TABLE], uint8_t flag, const uint8_t *keyid, size_t keyid_len,
                                   const uint8_t *source, size_t source_len, uint8_t suite, uint8_t edition, const uint8_t *key, size_t key_len,
                                   uint64_t size, uint64_t start);
 
 /* Frees a slot, which then holds zeros only; the entry's history is over, its highest number with it: list it first where the key is to be
- * installed again, for its start or for crisp_load. Done (0): slot is the slot freed. Refuses with 16 (slot over 15, or free). Touches no other slot. */
+ * installed again, for its start or for crisp_load. Where another entry is to stand in its place, crisp_change is better. Done (0): slot is the slot
+ * freed. Refuses with 16 (slot over 15, or free). Touches no other slot. */
 CRISP_CALL
 struct crisp_answer crisp_remove(uint8_t table[CRISP_AT_LEAST CRISP_TABLE], size_t slot);
+
+/* Changes the entry in a slot to another one, in one move: a fresh entry of this key data, size and start stands there afterwards, or nothing has
+ * happened at all. The arguments behind slot are those of crisp_install, and each byte of the slot becomes what an install would write there. Done
+ * (0): slot is the slot; the entry has highest number 0, nothing accepted, totals 0. Refuses with 16 (slot over 15, or free), 13 (key data, size or
+ * start unsound, as for crisp_install) and 14 (another occupied slot has the same flag and KeyId and, for flag 1, source), in that order. The slot's own
+ * entry is no twin, so flag, KeyId and source may stay; a full table is no hindrance, so there is no 15; and whether the old entry is damaged is not
+ * looked at. Touches no other slot. What stays of the key data is handed in again, from elsewhere than the table, for the call writes there.
+ *
+ * Use it where a controller gets another key, suite, edition, window or name. After crisp_remove the gateway is deaf to that controller (6) until
+ * crisp_install is done, and stays so where that is refused; and the install takes the lowest free slot, which may be another one. Where a change is
+ * refused, the old entry stands as it was, window and totals, and takes the next message.
+ *
+ * The old entry's history ends, and a new one begins. With a new key start is 0: every old message fails its check (11). The same key has a past: list
+ * the entry first, after its last arrival, and hand in as start the larger of its start and one more than its highest number, as is said at
+ * crisp_install. Then nothing that was counted before the change is handed out after it. Changed to the same key with start 0, for another window
+ * say, the entry lets its whole archive pass once more: each old message is genuine, its number is new to the fresh entry, and it is booked a second
+ * time.
+ *
+ * The window does not come along. What is still under way is lost, with a start what lies below it (9) and with a new key what was made with the old
+ * one (11): let it arrive first. The totals begin at 0, so save the old listing where they are to be answered for. And save the table, or a new
+ * listing, afterwards: an old table has the old key, and an old listing the old window, which shuts out a controller that numbers its messages anew
+ * with its new key (9, 10). */
+CRISP_CALL CRISP_READS(4, 5) CRISP_READS(6, 7) CRISP_READS(10, 11)
+struct crisp_answer crisp_change(uint8_t table[CRISP_AT_LEAST CRISP_TABLE], size_t slot, uint8_t flag, const uint8_t *keyid, size_t keyid_len,
+                                 const uint8_t *source, size_t source_len, uint8_t suite, uint8_t edition, const uint8_t *key, size_t key_len,
+                                 uint64_t size, uint64_t start);
 
 /* Takes a message, with the source that came with it; for flag 0 it is ignored, and CRISP_NOTHING with length 0 will do, null will not. Done (0):
  * the payload stands at the start of the output, later bytes stay; length is the payload's, slot the entry's, seqnum the message's number; the
@@ -281,9 +310,9 @@ struct crisp_answer crisp_listing(const uint8_t table[CRISP_AT_LEAST CRISP_TABLE
  * A listing holds no key: first install the entry with its key data, size and start, into the slot that is listed. Installs take the lowest free slot,
  * so install in the slots' order, and where one in between was free, put an entry there that is removed afterwards. Whether the key is the old one
  * cannot be seen: with another one each message that is not refused with 9 or 10 is then refused with 11. Only an entry that has accepted nothing takes a
- * listing; where it took a wrong one, remove it and install it again. The entry's highest number, marks and byte total of before are not looked at, so a
- * record with accepted 0 that is damaged in these alone is mended. A listing by version 1 or 2 has no line `edition=`, and one by version 1 no `start=`,
- * so it is refused with 21: it loads once `edition=2` was put behind `suite=`, and `start=0` behind `size=`.
+ * listing; where it took a wrong one, change it to its own key data, size and start, and load the right one. The entry's highest number, marks and byte
+ * total of before are not looked at, so a record with accepted 0 that is damaged in these alone is mended. A listing by version 1 or 2 has no line
+ * `edition=`, and one by version 1 no `start=`, so it is refused with 21: it loads once `edition=2` was put behind `suite=`, and `start=0` behind `size=`.
  *
  * An old text is as bad as an old table: each message that was accepted after it was made can pass once more. So list after the last arrival, save the
  * text before the payload is used, and in the same file what is to become of the payload. Nothing in the text shows that it was changed. Whoever can
@@ -302,9 +331,9 @@ struct crisp_answer crisp_load(uint8_t table[CRISP_AT_LEAST CRISP_TABLE], const 
  *         if (r.reply == CRISP_DONE) arrives(file + r.message, r.next - r.message, file + r.source, r.message - r.source);
  *
  * Where a record runs past the end, its reply 18 is the last before CRISP_END. What was received before it stands. A file that is read once more,
- * whatever other files came in between, hands out nothing, unless entries were installed or removed, or a listing was loaded, since; an entry that is
- * installed with a start above the file's numbers, or has loaded a listing from after the file was read, hands out nothing of it either.
- * examples/capture.c among the sources reads a file so.
+ * whatever other files came in between, hands out nothing, unless entries were installed, removed or changed, or a listing was loaded, since; an entry
+ * that is installed with a start above the file's numbers, or changed to one, or has loaded a listing from after the file was read, hands out nothing of
+ * it either. examples/capture.c among the sources reads a file so.
  *
  * The first answers the order of the file's numbers, 1 (highest byte first) or 2 (lowest), or 17 (header bad, or size not 24 to 65,536 bytes). Hand
  * the order to the second as it came. */
@@ -318,12 +347,13 @@ struct crisp_record crisp_capture_record(const uint8_t *file, size_t file_len, u
 
 /* Keys. Tables and records hold keys in clear, and so do their saved copies: let no other account read the files (mode 0600), nor their backups.
  * crisp_receive and crisp_protect leave the base key and parts of the derived keys in the dead stack below their caller, and bytes of a key or of
- * the payload in registers. A careful caller clears them, by the function below or by a stack of its own for the calls that it clears afterwards,
- * and writes no core files. crisp_load looks at no byte of a key and leaves none.
+ * the payload in registers. crisp_install and crisp_change copy a key, and may leave bytes of it there too. A careful caller clears them, by the
+ * function below or by a stack of its own for the calls that it clears afterwards, and writes no core files. crisp_load looks at no byte of a key
+ * and leaves none.
  *
  * crisp_forget clears CRISP_STACK bytes below its caller's frame, and the registers that a call need not keep. Call it from the function that
- * made the call, right after it. It is not proved; the tests find keys after crisp_receive and crisp_protect, and none after crisp_load, nor after
- * crisp_forget. */
+ * made the call, right after it. It is not proved; the tests find keys after crisp_receive and crisp_protect, none after crisp_load, and none after
+ * any of these five, of an entry's old key neither, once crisp_forget was called. */
 #if defined(__GNUC__) && defined(__x86_64__)
 __attribute__((noinline, unused)) static void crisp_forget(void)
 {

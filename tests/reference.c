@@ -255,28 +255,41 @@ static void take(u8 *s, u64 seqnum, u64 length)
     set(s + BYTES, 8, get(s + BYTES, 8) + length);
 }
 
-/* ---- the five functions */
+/* soundness, for an entry: the key data's, and that of Size and, as document 02, No. 2, has it, of start */
+static int sound_entry(u8 flag, const u8 *keyid, size_t keyid_len, size_t source_len, u8 suite, u8 edition, size_t key_len, u64 size, u64 start)
+{
+    return sound(flag, keyid, keyid_len, source_len, suite, edition, key_len) && size >= 1 && size <= 256 && start <= LAST;
+}
+
+/* a fresh entry: highest 0, no mark, totals 0, and zeros past its KeyId and its source, whatever stood in the slot */
+static void write_fresh(u8 *s, u8 flag, const u8 *keyid, size_t keyid_len, const u8 *source, size_t source_len, u8 suite, u8 edition, const u8 *key,
+                        u64 size, u64 start)
+{
+    memset(s, 0, SLOT);
+    s[0] = 1;
+    s[FLAG] = flag;
+    s[SUITE] = suite;
+    s[EDITION] = edition;
+    s[KEYID_LEN] = (u8)keyid_len;
+    memcpy(s + KEYID, keyid, keyid_len);
+    s[SOURCE_LEN] = (u8)source_len;
+    memcpy(s + SOURCE, source, source_len);
+    memcpy(s + KEY, key, 32);
+    set(s + SIZE, 8, size);
+    set(s + START, 8, start);
+}
+
+/* ---- the functions on a table and on a record */
 
 answer ref_install(u8 *table, u8 flag, const u8 *keyid, size_t keyid_len, const u8 *source, size_t source_len, u8 suite, u8 edition, const u8 *key,
                    size_t key_len, u64 size, u64 start)
 {
-    if (!sound(flag, keyid, keyid_len, source_len, suite, edition, key_len) || size < 1 || size > 256 || start > LAST) return refuse(13);
+    if (!sound_entry(flag, keyid, keyid_len, source_len, suite, edition, key_len, size, start)) return refuse(13);
     if (lookup(table, flag, keyid, keyid_len, source, source_len) >= 0) return refuse(14);
     for (size_t i = 0; i < 16; i++) {
         u8 *s = table + SLOT * i;
         if (s[0]) continue;
-        memset(s, 0, SLOT);
-        s[0] = 1;
-        s[FLAG] = flag;
-        s[SUITE] = suite;
-        s[EDITION] = edition;
-        s[KEYID_LEN] = (u8)keyid_len;
-        memcpy(s + KEYID, keyid, keyid_len);
-        s[SOURCE_LEN] = (u8)source_len;
-        memcpy(s + SOURCE, source, source_len);
-        memcpy(s + KEY, key, 32);
-        set(s + SIZE, 8, size);
-        set(s + START, 8, start);
+        write_fresh(s, flag, keyid, keyid_len, source, source_len, suite, edition, key, size, start);
         return done(0, i, 0);
     }
     return refuse(15);
@@ -286,6 +299,19 @@ answer ref_remove(u8 *table, size_t slot)
 {
     if (slot > 15 || !table[SLOT * slot]) return refuse(16);
     memset(table + SLOT * slot, 0, SLOT);
+    return done(0, slot, 0);
+}
+
+/* document 02, No. 7: 16, 13, 14 in that order, and for 14 the other slots are looked at, not this one; no free slot is needed */
+answer ref_change(u8 *table, size_t slot, u8 flag, const u8 *keyid, size_t keyid_len, const u8 *source, size_t source_len, u8 suite, u8 edition,
+                  const u8 *key, size_t key_len, u64 size, u64 start)
+{
+    if (slot > 15 || !table[SLOT * slot]) return refuse(16);
+    if (!sound_entry(flag, keyid, keyid_len, source_len, suite, edition, key_len, size, start)) return refuse(13);
+    for (size_t i = 0; i < 16; i++)
+        if (i != slot && matches(table + SLOT * i, flag, keyid, keyid_len, source, source_len)) return refuse(14);
+    u8 *s = table + SLOT * slot;
+    write_fresh(s, flag, keyid, keyid_len, source, source_len, suite, edition, key, size, start);
     return done(0, slot, 0);
 }
 

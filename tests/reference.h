@@ -18,6 +18,8 @@ void ref_keys(const uint32_t base[8], int suite, int edition, const uint8_t *sou
 struct crisp_answer ref_install(uint8_t *table, uint8_t flag, const uint8_t *keyid, size_t keyid_len, const uint8_t *source, size_t source_len,
                                 uint8_t suite, uint8_t edition, const uint8_t *key, size_t key_len, uint64_t size, uint64_t start);
 struct crisp_answer ref_remove(uint8_t *table, size_t slot);
+struct crisp_answer ref_change(uint8_t *table, size_t slot, uint8_t flag, const uint8_t *keyid, size_t keyid_len, const uint8_t *source,
+                               size_t source_len, uint8_t suite, uint8_t edition, const uint8_t *key, size_t key_len, uint64_t size, uint64_t start);
 struct crisp_answer ref_receive(uint8_t *table, const uint8_t *message, size_t message_len, const uint8_t *source, size_t source_len,
                                 uint8_t *out, size_t out_len);
 struct crisp_answer ref_protect(struct crisp_sender *sender, const uint8_t *payload, size_t payload_len, uint8_t *out, size_t out_len);
