@@ -17,7 +17,7 @@ enum { ENTRIES = 24, KEPT = 64, PRINTED = 16, ROOM = 2304 };
 
 /* of a slot: its bytes, and where its parts stand in it */
 enum { SLOT = CRISP_TABLE / CRISP_SLOTS, FLAG = 1, SUITE = 2, EDITION = 3, KEYID_LEN = 4, KEYID = 5, SOURCE_LEN = 133, SOURCE = 134, KEY = 166,
-       SIZE = 198, START = 206, ACCEPTED = 254 };
+       SIZE = 198, START = 206, HIGHEST = 214, ACCEPTED = 254 };
 
 /* a suite with these bits changed is the one that has the other length of check value: 1 and 241, 2 and 242 */
 enum { OTHER_LENGTH = 0xf0 };
@@ -49,8 +49,8 @@ static void say_bytes(const char *name, const uint8_t *p, size_t n)
 static uint8_t table[CRISP_TABLE], ref_table[CRISP_TABLE];
 static uint8_t out[ROOM], ref_out[ROOM];
 
-enum call { INSTALL, REMOVE, RECEIVE, PROTECT, LISTING, LOAD, CALLS };
-static const char *const call_names[CALLS] = {"install", "remove", "receive", "protect", "listing", "load"};
+enum call { INSTALL, REMOVE, CHANGE, RECEIVE, PROTECT, LISTING, LOAD, CALLS };
+static const char *const call_names[CALLS] = {"install", "remove", "change", "receive", "protect", "listing", "load"};
 enum { REPLIES = 24 };
 static uint64_t replies[CALLS][REPLIES], compared;
 static struct crisp_answer answered;            /* the last call's */
@@ -96,6 +96,33 @@ static const char *const load_names[LOADS] = {"own", "older", "any", "any refuse
                                               "calls after them", "loaded after them", "refused after them"};
 static uint64_t by_load[LOADS];
 
+/* changes that were done: with no free slot; to the name that stood there, which a lookup leads to or, as its stored length is over its room, does not;
+ * to another name; of a damaged record; past another slot that would have been a twin but for a stored length over its room; where a removal and an
+ * install would have come back to the slot, and where they would have taken a lower one */
+enum change { IN_FULL, SAME_NAME, BROKEN_NAME, OTHER_NAME, OF_DAMAGED, PAST_KEYID, PAST_SOURCE, SAME_BY_TWO, LOWER_BY_TWO, CHANGES };
+static const char *const change_names[CHANGES] = {"full table", "same name", "broken name", "another name", "damaged", "past a long KeyId",
+                                                  "past a long source", "as by two calls", "as by two in a lower slot"};
+static uint64_t by_change[CHANGES];
+
+/* changes that were refused: with 16; with 13 for one thing alone; with 14 by twins below alone and above alone, and so where the slot itself has the name */
+enum no_slot { OVER_15, FREE, NO_SLOTS };
+static const char *const no_slot_names[NO_SLOTS] = {"over 15", "free"};
+static uint64_t by_no_slot[NO_SLOTS];
+enum unsound { BAD_FLAG, BAD_KEYID, ABSENT_KEYID, BAD_SOURCE, BAD_SUITE, BAD_EDITION, BAD_KEY, BAD_SIZE, BAD_START, UNSOUND };
+static const char *const unsound_names[UNSOUND] = {"flag", "KeyId", "80 with flag 0", "source", "suite", "edition", "key", "Size", "start"};
+static uint64_t by_unsound[UNSOUND];
+enum twin { TWIN_BELOW, TWIN_ABOVE, OWN_AND_BELOW, OWN_AND_ABOVE, TWINS };
+static const char *const twin_names[TWINS] = {"below", "above", "own name and below", "own name and above"};
+static uint64_t by_twin[TWINS];
+
+/* messages after a change. The last that the old entry had taken, again: handed out once more by the same key with start 0, refused with 9 by the same
+ * key with a start behind the highest number, with 11 by a new key, with 6 under a name that is gone. The sender's next: handed out by the same key with
+ * that start, by the new key once the sender has it, after a change that was refused, and by a twin in another slot. */
+enum after { AGAIN, BELOW_NEW_START, BY_OLD_KEY, NO_NAME, NEXT_SAME, NEXT_NEW, NEXT_REFUSED, NEXT_TWIN, AFTERS };
+static const char *const after_names[AFTERS] = {"handed out again", "below the new start", "by the old key", "by the old name", "next, same key",
+                                                "next, new key", "next, refused change", "next, at a twin"};
+static uint64_t by_after[AFTERS];
+
 static void differs(const char *what)
 {
     printf("compare: %s differs after\n%.*s\n", what, (int)(traced < sizeof trace ? traced : sizeof trace), trace);
@@ -108,6 +135,7 @@ static void agree(enum call call, struct crisp_answer a, struct crisp_answer b)
         (unsigned long long)b.reply, b.length, b.slot, (unsigned long long)b.seqnum);
     if (a.reply != b.reply || a.length != b.length || a.slot != b.slot || a.seqnum != b.seqnum) differs("the answer");
     if (!is_reply(a.reply)) differs("a reply that is not listed");
+    if (call == CHANGE && a.reply && a.reply != 16 && a.reply != 13 && a.reply != 14) differs("a reply that no change has");
     if (memcmp(table, ref_table, CRISP_TABLE)) differs("the table");
     if (memcmp(out, ref_out, ROOM)) differs("the output");
     replies[call][a.reply]++;
@@ -201,6 +229,103 @@ static void call_remove(size_t slot)
     say("remove %zu", slot);
     struct crisp_answer a = crisp_remove(table, slot);
     agree(REMOVE, a, ref_remove(ref_table, slot));
+}
+
+/* what an entry is changed to: key data, its edition the entry's, Size and start */
+struct next {
+    struct crisp_sender data;
+    uint64_t size, start;
+    size_t key_len;
+};
+
+/* whether an occupied slot has the flag and KeyId and, for flag 1, source, as far as its stored lengths go; those of sound key data */
+static int has_name(const uint8_t *slot, const struct crisp_sender *s)
+{
+    return slot[0] && slot[FLAG] == s->flag && slot[KEYID_LEN] == s->keyid_len && !memcmp(slot + KEYID, s->keyid, s->keyid_len)
+        && (s->flag == 0 || (slot[SOURCE_LEN] == s->source_len && !memcmp(slot + SOURCE, s->source, s->source_len)));
+}
+
+static int within_room(const uint8_t *slot) { return slot[KEYID_LEN] <= CRISP_KEYID && slot[SOURCE_LEN] <= CRISP_SOURCE; }
+
+/* the one thing that is unsound, or UNSOUND where there are more */
+static enum unsound only_fault(const struct next *n)
+{
+    const struct crisp_sender *s = &n->data;
+    const int faults[UNSOUND] = {s->flag > 1, s->keyid_len != (s->keyid[0] <= 0x80 ? 1 : s->keyid[0] - 0x7fu), s->flag == 0 && s->keyid[0] == 0x80,
+                                 s->source_len < 4 || s->source_len > 32, s->suite != 1 && s->suite != 2 && !is_long(s->suite),
+                                 s->edition != 2 && !(s->edition == 1 && s->suite == 1), n->key_len != 32, n->size < 1 || n->size > 256,
+                                 n->start > CRISP_LAST};
+    enum unsound found = UNSOUND;
+    for (int i = 0; i < UNSOUND; i++) {
+        if (faults[i] && found != UNSOUND) return UNSOUND;
+        if (faults[i]) found = (enum unsound)i;
+    }
+    return found;
+}
+
+static void count_twins(const uint8_t *before, size_t slot, const struct crisp_sender *s)
+{
+    int twins = 0, own = has_name(before + SLOT * slot, s) && within_room(before + SLOT * slot);
+    for (size_t i = 0; i < CRISP_SLOTS; i++)
+        if (i != slot && has_name(before + SLOT * i, s) && within_room(before + SLOT * i)) twins |= i < slot ? 1 : 2;
+    if (twins == 1) by_twin[own ? OWN_AND_BELOW : TWIN_BELOW]++;
+    if (twins == 2) by_twin[own ? OWN_AND_ABOVE : TWIN_ABOVE]++;
+}
+
+static void count_done(const uint8_t *before, size_t slot, const struct crisp_sender *s)
+{
+    static uint8_t text[ROOM];
+    const uint8_t *own = before + SLOT * slot;
+    size_t occupied = 0;
+    for (size_t i = 0; i < CRISP_SLOTS; i++) {
+        const uint8_t *other = before + SLOT * i;
+        occupied += other[0] != 0;
+        if (i == slot || !other[0] || other[FLAG] != s->flag || memcmp(other + KEYID, s->keyid, s->keyid_len)) continue;
+        if (other[KEYID_LEN] > CRISP_KEYID) by_change[PAST_KEYID]++;
+        if (s->flag == 0 && other[KEYID_LEN] == s->keyid_len && other[SOURCE_LEN] > CRISP_SOURCE) by_change[PAST_SOURCE]++;
+    }
+    by_change[IN_FULL] += occupied == CRISP_SLOTS;
+    by_change[!has_name(own, s) ? OTHER_NAME : within_room(own) ? SAME_NAME : BROKEN_NAME]++;
+    by_change[OF_DAMAGED] += ref_listing(before, slot, text, sizeof text).reply == 7;
+}
+
+/* A change answers what the first that is refused of a removal and an install answers, and where none is, leaves their entry; in the same slot, their
+ * table. */
+static void as_by_two_calls(const uint8_t *before, size_t slot, const struct next *n, const uint8_t *keyid, const uint8_t *source, const uint8_t *key)
+{
+    static uint8_t two[CRISP_TABLE];
+    const struct crisp_sender *s = &n->data;
+    memcpy(two, before, CRISP_TABLE);
+    struct crisp_answer b = ref_remove(two, slot);
+    if (!b.reply) b = ref_install(two, s->flag, keyid, s->keyid_len, source, s->source_len, s->suite, s->edition, key, n->key_len, n->size, n->start);
+    if (answered.reply != b.reply) differs("the reply of a removal and an install");
+    if (b.reply) return;
+    if (memcmp(table + SLOT * slot, two + SLOT * b.slot, SLOT)) differs("the entry of a removal and an install");
+    if (b.slot == slot && memcmp(table, two, CRISP_TABLE)) differs("the table of a removal and an install");
+    by_change[b.slot == slot ? SAME_BY_TWO : LOWER_BY_TWO]++;
+}
+
+static void call_change(size_t slot, const struct next *n)
+{
+    static uint8_t keyid[ROOM], source[ROOM], key[ROOM], before[CRISP_TABLE];           /* a length may be one that a sender has no room for */
+    const struct crisp_sender *s = &n->data;
+    memcpy(keyid, s->keyid, CRISP_KEYID), memcpy(source, s->source, CRISP_SOURCE), memcpy(key, s->key, CRISP_KEY);
+    memcpy(before, ref_table, CRISP_TABLE);
+    say("change slot=%zu flag=%d suite=%d edition=%d size=%llu start=%llu", slot, s->flag, s->suite, s->edition, (unsigned long long)n->size,
+        (unsigned long long)n->start);
+    say_bytes("keyid", keyid, s->keyid_len);
+    say_bytes("source", source, s->source_len);
+    say_bytes("key", key, n->key_len);
+    struct crisp_answer a = crisp_change(table, slot, s->flag, keyid, s->keyid_len, source, s->source_len, s->suite, s->edition, key, n->key_len,
+                                         n->size, n->start);
+    struct crisp_answer b = ref_change(ref_table, slot, s->flag, keyid, s->keyid_len, source, s->source_len, s->suite, s->edition, key, n->key_len,
+                                       n->size, n->start);
+    agree(CHANGE, a, b);
+    as_by_two_calls(before, slot, n, keyid, source, key);
+    if (a.reply == 0) count_done(before, slot, s);
+    if (a.reply == 14) count_twins(before, slot, s);
+    if (a.reply == 16) by_no_slot[slot >= CRISP_SLOTS ? OVER_15 : FREE]++;
+    if (a.reply == 13 && only_fault(n) != UNSOUND) by_unsound[only_fault(n)]++;
 }
 
 /* the table with start 0 in each slot, with edition 2, or with the other edition */
@@ -506,13 +631,20 @@ static uint64_t number_at(const uint8_t *p)
 }
 
 /* the key data, Size and start that stand in a slot */
+static struct next entry_in(const uint8_t *slot)
+{
+    struct next n = {.data = {.flag = slot[FLAG], .keyid_len = slot[KEYID_LEN], .source_len = slot[SOURCE_LEN], .suite = slot[SUITE],
+                              .edition = slot[EDITION]}, .size = number_at(slot + SIZE), .start = number_at(slot + START), .key_len = 32};
+    memcpy(n.data.keyid, slot + KEYID, CRISP_KEYID);
+    memcpy(n.data.source, slot + SOURCE, CRISP_SOURCE);
+    memcpy(n.data.key, slot + KEY, CRISP_KEY);
+    return n;
+}
+
 static struct crisp_answer install_from(const uint8_t *slot)
 {
-    struct crisp_sender s = {.flag = slot[FLAG], .keyid_len = slot[KEYID_LEN], .source_len = slot[SOURCE_LEN], .suite = slot[SUITE]};
-    memcpy(s.keyid, slot + KEYID, CRISP_KEYID);
-    memcpy(s.source, slot + SOURCE, CRISP_SOURCE);
-    memcpy(s.key, slot + KEY, CRISP_KEY);
-    call_install(&s, slot[EDITION], number_at(slot + SIZE), number_at(slot + START), 32);
+    struct next n = entry_in(slot);
+    call_install(&n.data, n.data.edition, n.size, n.start, n.key_len);
     return answered;
 }
 
@@ -529,10 +661,15 @@ static int install_again(const uint8_t *from, size_t last)
     return 1;
 }
 
-/* an undamaged entry, removed and installed again in its slot */
+/* an undamaged entry, changed to its own key data, Size and start, or removed and installed again in its slot */
 static int stands_again(size_t slot)
 {
     static uint8_t from[CRISP_TABLE];
+    if (below(2)) {
+        struct next n = entry_in(table + SLOT * slot);
+        call_change(slot, &n);
+        return answered.reply == 0;
+    }
     memcpy(from, table, CRISP_TABLE);
     call_remove(slot);
     return install_again(from, slot);
@@ -820,6 +957,155 @@ static void random_load(void)
     }
 }
 
+/* ---- random changes */
+
+/* the larger of the entry's start and one more than its highest number */
+static uint64_t start_behind(const uint8_t *slot)
+{
+    uint64_t start = number_at(slot + START), behind = number_at(slot + HIGHEST) + 1;
+    return behind > start ? behind : start;
+}
+
+/* what a slot's entry is changed to: the same key with start 0 or with a start behind its past, a new key, any sender's entry, or another slot's name */
+enum how { FROM_ZERO, FROM_BEHIND, NEW_KEY, ANY_ENTRY, TWIN_NAME, HOWS };
+
+static enum how choose_next(size_t slot, struct next *n)
+{
+    const uint8_t *s = table + SLOT * slot;
+    enum how how = (enum how)below(HOWS);
+    int i = (int)below(ENTRIES);
+    *n = entry_in(s);
+    if (how == FROM_ZERO) n->start = 0;
+    if (how == FROM_BEHIND) n->start = start_behind(s);
+    if (how == NEW_KEY) fill(n->data.key, 32), n->start = 0;
+    if (how == ANY_ENTRY) n->data = senders[i], n->data.edition = editions[i], n->size = sizes[i], n->start = starts[i];
+    if (how == TWIN_NAME) *n = entry_in(table + SLOT * some_slot()), fill(n->data.key, 32);
+    if (how < ANY_ENTRY && below(2)) n->size = sizes[i];
+    return how;
+}
+
+/* one thing of it becomes what may be unsound */
+static void spoil_next(struct next *n)
+{
+    struct crisp_sender *s = &n->data;
+    switch (below(9)) {
+    case 0: s->flag = some_byte(); break;
+    case 1: s->suite = some_suite(); break;
+    case 2: s->keyid_len = below(2) ? below(300) : s->keyid_len + 256 * below(2); break;
+    case 3: s->source_len = below(2) ? below(40) : s->source_len + 256; break;
+    case 4: n->size = below(3) ? 256 + below(2) : below(2) ? 0 : rnd(); break;
+    case 5: n->key_len = below(2) ? 28 + below(9) : below(300); break;
+    case 6: n->start = below(4) ? CRISP_LAST - 1 + below(4) : rnd(); break;
+    case 7: s->edition = some_byte(); break;
+    default: s->keyid[0] = 0x80, s->keyid_len = 1, s->flag = (uint8_t)below(2);
+    }
+}
+
+static size_t some_number_of_slot(void) { return below(2) ? below(18) : below(2) ? 16 + below(300) : below(2) ? rnd() : (1ULL << (4 + below(60))) - below(2); }
+
+/* a change of a slot, and how it is meant; HOWS where something of it is spoilt, or the slot is another one */
+static enum how choose_change(size_t *slot, struct next *n)
+{
+    enum how how = choose_next(*slot, n);
+    if (!below(4)) spoil_next(n), how = HOWS;
+    if (!below(6)) *slot = some_number_of_slot(), how = HOWS;
+    return how;
+}
+
+/* Another slot becomes a copy of this one, by hand: a twin, or none where a stored length is over its room, or where it is free for all its bytes. */
+static void make_twin(size_t slot)
+{
+    size_t other = (slot + 1 + below(CRISP_SLOTS - 1)) % CRISP_SLOTS, at = SLOT * other;
+    say("slot %zu is copied to slot %zu\n", slot, other);
+    memcpy(table + at, table + SLOT * slot, SLOT);
+    memcpy(ref_table + at, table + at, SLOT);
+    by_hand = 1;
+    switch (below(6)) {
+    case 0: put(at + KEYID_LEN, (uint8_t)(129 + below(127))); break;
+    case 1: put(at + SOURCE_LEN, (uint8_t)(33 + below(223))); break;
+    case 2: put(at, (uint8_t)rnd()); break;
+    }
+}
+
+/* the entry's record is damaged; at times its stored source is longer than its room, so that nothing leads to it */
+static void damage_entry(size_t slot)
+{
+    size_t at = SLOT * slot;
+    if (below(2)) put(at + SOURCE_LEN, (uint8_t)(33 + below(223)));
+    else put(at + HIGHEST + below(56), some_byte());
+}
+
+/* the sender whose next message the entry takes now, or -1; it is the last that is kept */
+static int taken_from(size_t slot)
+{
+    for (int i = 0; i < ENTRIES; i++) {
+        int before = keeps;
+        if (!has_name(table + SLOT * slot, &senders[i])) continue;
+        random_protect(i, 1);
+        if (keeps == before) continue;
+        const struct message *m = &kept[(keeps - 1) % KEPT];
+        call_receive(m->bytes, m->length, senders[i].source, senders[i].source_len, 2048);
+        if (!answered.reply && answered.slot == slot) return i;
+    }
+    return -1;
+}
+
+static int next_passes(int from)
+{
+    int before = keeps;
+    random_protect(from, 1);
+    if (keeps == before) return 0;
+    const struct message *m = &kept[(keeps - 1) % KEPT];
+    call_receive(m->bytes, m->length, senders[from].source, senders[from].source_len, 2048);
+    return answered.reply == 0;
+}
+
+/* the sender goes on with that key, from number 0 */
+static void take_key(int i, const uint8_t key[CRISP_KEY])
+{
+    memcpy(senders[i].key, key, CRISP_KEY), senders[i].current = 0;
+    memcpy(ref_senders[i].key, key, CRISP_KEY), ref_senders[i].current = 0;
+}
+
+/* a message that the slot's entry had taken before a change, once more, and the sender's next */
+static void arrives_after(const struct message *old, uint64_t number, size_t slot, enum how how, const struct next *n)
+{
+    uint64_t changed = answered.reply;
+    const struct crisp_sender *s = &senders[old->from];
+    call_receive(old->bytes, old->length, s->source, s->source_len, 2048);
+    int here = answered.slot == slot, again = answered.reply == 0 && here;
+    if (again && (changed || n->start > number)) differs("a message from before a change");
+    if (changed) {
+        by_after[NEXT_REFUSED] += next_passes(old->from) && answered.slot == slot;
+        return;
+    }
+    if (how == FROM_ZERO) by_after[AGAIN] += again;
+    if (how == FROM_BEHIND) by_after[BELOW_NEW_START] += answered.reply == 9;
+    if (how == NEW_KEY) by_after[BY_OLD_KEY] += answered.reply == 11;
+    if (how == ANY_ENTRY) by_after[NO_NAME] += answered.reply == 6;
+    if (how == NEW_KEY) take_key(old->from, n->data.key);
+    if (!next_passes(old->from)) return;
+    if (answered.slot != slot) by_after[NEXT_TWIN]++;
+    else if (how == FROM_BEHIND) by_after[NEXT_SAME]++;
+    else if (how == NEW_KEY) by_after[NEXT_NEW]++;
+}
+
+static void random_change(void)
+{
+    size_t slot = some_slot();
+    struct next n;
+    int from = below(4) ? taken_from(slot) : -1;
+    uint64_t number = answered.seqnum;
+    struct message old = kept[(keeps ? keeps - 1 : 0) % KEPT];
+    if (!below(3)) make_twin(slot);
+    if (!below(8)) call_remove(below(slot + 1));
+    size_t at = slot;
+    enum how how = choose_change(&at, &n);
+    if (!below(6)) damage_entry(slot), from = -1;
+    call_change(at, &n);
+    if (from >= 0) arrives_after(&old, number, slot, how, &n);
+}
+
 /* ---- restarts */
 
 static void exchange_tables(uint8_t other[CRISP_TABLE])
@@ -833,10 +1119,13 @@ static void exchange_tables(uint8_t other[CRISP_TABLE])
 
 static void random_table_call(void)
 {
-    switch (below(8)) {
+    struct next n;
+    size_t slot = some_slot();
+    switch (below(9)) {
     case 0: random_install(); break;
     case 1: call_remove(below(18)); break;
     case 2: call_listing(below(18), some_room()); break;
+    case 3: choose_change(&slot, &n), call_change(slot, &n); break;
     default: random_receive();
     }
 }
@@ -916,7 +1205,7 @@ static void restart(void)
 
 static void random_call(void)
 {
-    switch (below(23)) {
+    switch (below(25)) {
     case 0: case 1: case 2: random_install(); break;
     case 3: if (!below(3)) call_remove(below(18)); break;
     case 4: call_listing(below(18), some_room()); break;
@@ -925,6 +1214,7 @@ static void random_call(void)
     case 7: case 8: case 9: random_protect((int)below(ENTRIES), 1); break;
     case 10: case 11: random_load(); break;
     case 12: if (!below(2)) restart(); break;
+    case 13: case 14: random_change(); break;
     default: random_receive();
     }
 }
@@ -1354,9 +1644,259 @@ static void sweep_texts(void)
     }
 }
 
+/* ---- the sweeps of changes: a full table, in which one entry has a history */
+
+enum { ARCHIVE = 6 };
+static struct message archive[ARCHIVE];         /* what that entry has taken, the last with the highest number */
+static uint64_t archived[ARCHIVE];              /* their numbers */
+static struct next own;                         /* what stands in its slot */
+
+/* sender i's entry in that slot, fillers in all others; with that flag, where its KeyId goes with it */
+static int make_archive(int i, size_t slot, uint8_t flag)
+{
+    static const uint8_t payload[8] = "17.3 GJ";
+    make_swept();
+    clear_tables();
+    traced = 0;
+    sizes[i] = 64;
+    if (senders[i].keyid[0] != 0x80) senders[i].flag = ref_senders[i].flag = flag;
+    for (size_t k = 0; k < CRISP_SLOTS; k++) k == slot ? install(i) : (void)install_filler(k);
+    for (int n = 0; n < ARCHIVE; n++) {
+        senders[i].current += (uint64_t)n % 3, ref_senders[i].current += (uint64_t)n % 3;
+        if (!next_message(i, payload, (size_t)n)) return 0;
+        archive[n].length = swept_length, archive[n].from = i;
+        memcpy(archive[n].bytes, swept, swept_length);
+        arrives(i, swept_length, senders[i].source_len, 2048);
+        if (answered.reply || answered.slot != slot) return 0;
+        archived[n] = answered.seqnum;
+    }
+    own = entry_in(table + SLOT * slot);
+    memcpy(saved, table, CRISP_TABLE);
+    return next_message(i, payload, 7);
+}
+
+static uint64_t arrives_again(int n)
+{
+    const struct crisp_sender *s = &senders[archive[n].from];
+    call_receive(archive[n].bytes, archive[n].length, s->source, s->source_len, 2048);
+    return answered.reply;
+}
+
+static uint64_t change_back(size_t slot, const struct next *n)
+{
+    back(), call_change(slot, n);
+    return answered.reply;
+}
+
+/* The same key: from each start on, what was taken before passes once more and no more than once, and nothing below; the next message passes. */
+static void sweep_starts(size_t slot)
+{
+    uint64_t behind = archived[ARCHIVE - 1] + 1;
+    for (uint64_t start = 0; start <= behind; start++) {
+        struct next n = own;
+        n.start = start;
+        if (change_back(slot, &n)) differs("a change to the same key");
+        for (int k = 0; k < ARCHIVE; k++)
+            if (arrives_again(k) != (archived[k] < start ? 9 : 0)) differs("what was taken before a change, from its start on,");
+        for (int k = 0; k < ARCHIVE; k++)
+            if (arrives_again(k) == 0) differs("what was taken twice after a change");
+        arrives(archive[0].from, swept_length, own.data.source_len, 2048);
+        if (answered.reply || answered.slot != slot) differs("the next message after a change");
+        call_listing(slot, 2048);
+    }
+}
+
+/* all that was taken before is answered so, by the entry as it was changed */
+static void archive_meets(size_t slot, const struct next *n, uint64_t reply, const char *what)
+{
+    if (change_back(slot, n)) differs(what);
+    for (int k = 0; k < ARCHIVE; k++)
+        if (arrives_again(k) != reply) differs(what);
+    call_listing(slot, 2048);
+}
+
+/* one thing of the key data is another */
+static void sweep_other_data(size_t slot)
+{
+    struct next n;
+    n = own, n.start = 0, n.data.key[31] ^= 1, archive_meets(slot, &n, 11, "a change to a new key");
+    struct crisp_sender s = n.data, r = n.data;
+    s.edition = r.edition = senders[archive[0].from].edition, s.current = r.current = 0;
+    struct crisp_answer a = call_protect(&s, &r, CRISP_NOTHING, 0, 2048);
+    uint8_t first[2048];
+    memcpy(first, out, sizeof first);
+    call_receive(first, a.length, s.source, s.source_len, 2048);
+    if (answered.reply || answered.slot != slot) differs("the first message by a new key");
+    n = own, n.start = 0, n.data.suite = own.data.suite ^ OTHER_LENGTH, n.data.edition = 2, archive_meets(slot, &n, 8, "a change to another suite");
+    if (own.data.suite == 1) n = own, n.start = 0, n.data.edition = (uint8_t)(3 - own.data.edition), archive_meets(slot, &n, 11, "a change to another edition");
+    n = own, n.start = 0, n.data.source[0] ^= 1, archive_meets(slot, &n, own.data.flag ? 6 : 11, "a change to another source");
+    n = own, n.start = 0, n.data.flag ^= 1, archive_meets(slot, &n, 6, "a change to another flag");
+    n = own, n.start = 0, n.data.keyid[0] = 0x2a, n.data.keyid_len = 1, archive_meets(slot, &n, 6, "a change to another KeyId");
+}
+
+/* every number of a slot, in a full table and in one that has a free slot */
+static void sweep_numbers(size_t slot)
+{
+    for (int freed = 0; freed < 2; freed++) {
+        for (size_t i = 0; i < 404; i++) {
+            size_t at = i < 300 ? i : i < 320 ? SIZE_MAX - (i - 300) : i < 340 ? SIZE_MAX / SLOT + (i - 330) : (size_t)1 << (i % 64);
+            for (size_t more = 0; more < (i < 300 ? 1 : 17); more++) {
+                back();
+                if (freed) call_remove((slot + 5) % CRISP_SLOTS);
+                struct next n = own;
+                n.data.keyid[0] = 0x2a, n.data.keyid_len = 1;
+                call_change(at + more, &n);
+                if (answered.reply != (at + more > 15 || (freed && at + more == (slot + 5) % CRISP_SLOTS) ? 16 : 0)) differs("a change by the number of a slot");
+            }
+        }
+    }
+}
+
+static void change_length(size_t slot, size_t *length, size_t x, struct next *n)
+{
+    size_t before = *length;
+    *length = x;
+    change_back(slot, n);
+    *length = before;
+}
+
+/* every value of a byte, every length, sizes and starts about the powers of two */
+static void sweep_data(size_t slot)
+{
+    struct next n = own;
+    for (unsigned x = 0; x < 256; x++) {
+        n = own, n.data.flag = (uint8_t)x, change_back(slot, &n);
+        for (size_t i = 0; i < EVERY_SUITE; i++) n = own, n.data.suite = suites[i], n.data.edition = (uint8_t)x, change_back(slot, &n);
+        for (uint8_t edition = 0; edition < 4; edition++) n = own, n.data.suite = (uint8_t)x, n.data.edition = edition, change_back(slot, &n);
+        for (uint8_t flag = 0; flag < 2; flag++) {
+            n = own, n.data.keyid[0] = (uint8_t)x, n.data.flag = flag, change_back(slot, &n);
+            size_t asked = x <= 0x80 ? 1 : x - 0x7f;
+            for (size_t length = asked - 1; length < asked + 2; length++) change_length(slot, &n.data.keyid_len, length, &n);
+            change_length(slot, &n.data.keyid_len, asked + 256, &n);
+        }
+    }
+    n = own;
+    for (size_t length = 0; length <= 600; length++) {
+        change_length(slot, &n.data.keyid_len, length, &n);
+        change_length(slot, &n.data.source_len, length, &n);
+        change_length(slot, &n.key_len, length, &n);
+    }
+    for (int bit = 0; bit < 64; bit++)
+        for (uint64_t x = 0; x < 3; x++) {
+            n = own, n.size = (1ULL << bit) + x - 1, change_back(slot, &n);
+            n = own, n.start = (1ULL << bit) + x - 1, change_back(slot, &n);
+        }
+    for (uint64_t x = 0; x <= 300; x++) n = own, n.size = x, change_back(slot, &n), n.size = UINT64_MAX - x, change_back(slot, &n);
+}
+
+/* each slot to each slot's name: its own alone is no twin; and with another source, which is part of the name for flag 1 alone */
+static void sweep_names(void)
+{
+    for (size_t i = 0; i < CRISP_SLOTS; i++)
+        for (size_t k = 0; k < CRISP_SLOTS; k++) {
+            struct next n = entry_in(saved + SLOT * k);
+            if (change_back(i, &n) != (i == k ? 0 : 14)) differs("a change to a slot's name");
+            n.data.source[1] ^= 1;
+            if (change_back(i, &n) != (i == k || n.data.flag ? 0 : 14)) differs("a change to a slot's name with another source");
+            n.data.flag ^= 1, change_back(i, &n);
+        }
+}
+
+/* Another slot is a copy of this one, by hand, as it is, with any first byte, with each stored length: this one is changed to the name that it has, and so
+ * is the other; then to another name, and messages go where the name still stands. */
+static void sweep_copies(size_t slot)
+{
+    for (size_t i = 0; i < CRISP_SLOTS; i++) {
+        if (i == slot) continue;
+        size_t at = SLOT * i;
+        for (int byte = 0; byte < 3 * 256; byte++) {
+            for (int which = 0; which < 2; which++) {
+                back();
+                memcpy(table + at, saved + SLOT * slot, SLOT), memcpy(ref_table + at, saved + SLOT * slot, SLOT);
+                put(at + (byte < 256 ? 0 : byte < 512 ? KEYID_LEN : SOURCE_LEN), (uint8_t)byte);
+                call_change(which ? i : slot, &own);
+            }
+            if (byte % 256 > 1 && byte % 256 < 254) continue;
+            struct next n = own;
+            n.data.keyid[0] = 0x2a, n.data.keyid_len = 1;
+            call_change(slot, &n);
+            arrives(archive[0].from, swept_length, own.data.source_len, 2048);
+        }
+    }
+}
+
+/* a slot that is one, is free, is none; each thing unsound, or none; its own name, another slot's, a new one: the first of 16, 13, 14 is given */
+static void sweep_change_order(size_t slot)
+{
+    size_t other = (slot + 1) % CRISP_SLOTS, freed = (slot + 2) % CRISP_SLOTS;
+    const size_t at[] = {slot, freed, CRISP_SLOTS + slot, other};
+    for (size_t k = 0; k < sizeof at / sizeof *at; k++)
+        for (int fault = -1; fault < UNSOUND; fault++)
+            for (int name = 0; name < 3; name++) {
+                back();
+                call_remove(freed);
+                struct next n = name == 1 ? entry_in(saved + SLOT * other) : own;
+                if (name == 2) n.data.keyid[0] = 0x2a, n.data.keyid_len = 1;
+                switch (fault) {
+                case BAD_FLAG: n.data.flag = 2; break;
+                case BAD_KEYID: n.data.keyid_len++; break;
+                case ABSENT_KEYID: n.data.keyid[0] = 0x80, n.data.keyid_len = 1, n.data.flag = 0; break;
+                case BAD_SOURCE: n.data.source_len = 33; break;
+                case BAD_SUITE: n.data.suite = 3; break;
+                case BAD_EDITION: n.data.edition = 3; break;
+                case BAD_KEY: n.key_len = 31; break;
+                case BAD_SIZE: n.size = 257; break;
+                case BAD_START: n.start = CRISP_LAST + 1ULL; break;
+                }
+                call_change(at[k], &n);
+                uint64_t twin = (name == 0 && at[k] != slot) || (name == 1 && at[k] != other) ? 14 : 0;
+                if (answered.reply != (k == 1 || k == 2 ? 16 : fault >= 0 ? 13 : twin)) differs("the order of 16, 13 and 14");
+            }
+}
+
+/* each byte of the slot replaced, so that it is damaged, has another name, or is free; then it is changed, and in its place another one to its name */
+static void sweep_change_damaged(size_t slot)
+{
+    for (size_t i = 0; i < SLOT; i++)
+        for (int v = 0; v < 5; v++)
+            for (int which = 0; which < 2; which++) {
+                uint8_t x = saved[SLOT * slot + i];
+                back();
+                put(SLOT * slot + i, (uint8_t)(v == 0 ? 0 : v == 1 ? 255 : v == 2 ? x + 1 : x ^ (v == 3 ? 0x80 : OTHER_LENGTH)));
+                call_change((slot + (size_t)which) % CRISP_SLOTS, &own);
+                call_listing(slot, 2048);
+                arrives_again(ARCHIVE - 1);
+            }
+}
+
+static void sweep_changes(void)
+{
+    static const struct { int sender; size_t slot; uint8_t flag; } changed[] = {{0, 0, 0}, {0, 7, 1}, {5, 15, 1}, {3, 1, 0}, {9, 10, 0}, {16, 6, 1}};
+    for (size_t k = 0; k < sizeof changed / sizeof *changed; k++) {
+        size_t slot = changed[k].slot;
+        if (!make_archive(changed[k].sender, slot, changed[k].flag)) differs("an entry that is to be changed");
+        sweep_starts(slot);
+        sweep_other_data(slot);
+        sweep_numbers(slot);
+        sweep_data(slot);
+        sweep_names();
+        sweep_copies(slot);
+        sweep_change_order(slot);
+        sweep_change_damaged(slot);
+    }
+}
+
+/* what the sweeps have met is not counted of changes: the random sequences must meet it too */
+static void count_from_here(void)
+{
+    memset(by_change, 0, sizeof by_change), memset(by_no_slot, 0, sizeof by_no_slot), memset(by_unsound, 0, sizeof by_unsound);
+    memset(by_twin, 0, sizeof by_twin), memset(by_after, 0, sizeof by_after);
+}
+
 static void sweep_all(void)
 {
     static const int which[] = {0, 1, 2, 3, 4, 5, 6, 7, 8, 9, 13, 16, 17, 21};
+    sweep_changes();
     sweep_loads();
     make_swept();
     for (size_t k = 0; k < sizeof which / sizeof *which; k++) sweep(which[k], 7 * (size_t)(which[k] % 8));
@@ -1382,6 +1922,7 @@ int main(int argc, char **argv)
     uint64_t sequences = argc > 1 ? strtoull(argv[1], NULL, 0) : 100000, seed = argc > 2 ? strtoull(argv[2], NULL, 0) : 1;
     random_state = seed;
     sweep_all();
+    count_from_here();
     uint64_t swept = compared;
     for (uint64_t i = 0; i < sequences; i++) random_sequence(seed << 32 | i);
     int missing = 0;
@@ -1399,7 +1940,9 @@ int main(int argc, char **argv)
     missing += print_counts("start", start_names, by_start, STARTS) + print_counts("edition", edition_names, by_edition, EDITIONS)
              + print_counts("suite", suite_names, by_suite, SUITES) + print_counts("load", load_names, by_load, LOADS)
              + print_counts("by 21", form_names, by_form, FORMS) + print_counts("by 22", entry_names, by_entry, ENTRY)
-             + print_counts("by 23", record_names, by_record, RECORD);
+             + print_counts("by 23", record_names, by_record, RECORD) + print_counts("change", change_names, by_change, CHANGES)
+             + print_counts("by 16", no_slot_names, by_no_slot, NO_SLOTS) + print_counts("by 13", unsound_names, by_unsound, UNSOUND)
+             + print_counts("by 14", twin_names, by_twin, TWINS) + print_counts("after", after_names, by_after, AFTERS);
     printf("compare: %llu calls in sweeps and %llu in %llu random sequences, no difference\n", (unsigned long long)swept,
            (unsigned long long)(compared - swept), (unsigned long long)sequences);
     return missing ? 1 : 0;
