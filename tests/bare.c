@@ -1,5 +1,5 @@
-/* bare.c: the library without a C library: -nostdlib, with memcpy and memset of its own. One message is sent, received, repeated and listed; the listing
- * goes to standard output by a system call, for want of a wire. */
+/* bare.c: the library without a C library: -nostdlib, with memcpy and memset of its own. One message is sent, received, repeated and listed, and is
+ * refused once its entry has another key; the listing goes to standard output by a system call, for want of a wire. */
 #include "crisp.h"
 
 void *memcpy(void *to, const void *from, size_t n)
@@ -45,6 +45,10 @@ static int exchange(void)
     crisp_forget();
     a = crisp_listing(table, 0, out, sizeof out);
     if (a.reply != CRISP_DONE || system_call(1, 1, out, a.length) != (long)a.length) return 6;
+    static const uint8_t key[CRISP_KEY] = {4, 5, 6};
+    a = crisp_change(table, 0, sender.flag, sender.keyid, sender.keyid_len, sender.source, sender.source_len, sender.suite, sender.edition, key,
+                     sizeof key, CRISP_SIZE, 0);
+    if (a.reply != CRISP_DONE || crisp_receive(table, message, length, CRISP_NOTHING, 0, out, sizeof out).reply != CRISP_WRONG_ICV) return 8;
     return crisp_remove(table, 0).reply == CRISP_DONE ? 0 : 7;
 }
 

@@ -57,6 +57,39 @@ static int restores(size_t slot, size_t length)
     return a.reply != CRISP_REPEATED;
 }
 
+/* the entry is changed to the sender's key data with that key, size and start */
+static uint64_t changes_to(size_t slot, const uint8_t *key, uint64_t size, uint64_t start)
+{
+    struct crisp_answer a;
+    a = crisp_change(table, slot, 0, sender.keyid, sender.keyid_len, sender.source, sender.source_len, sender.suite, sender.edition, key, CRISP_KEY, size,
+                     start);
+    return a.slot != (a.reply == CRISP_DONE ? slot : 0) || a.length != 0 || a.seqnum != 0 ? CRISP_END : a.reply;
+}
+
+/* the reply to the message, which the entry has taken before */
+static uint64_t again(void)
+{
+    struct crisp_answer a;
+    a = crisp_receive(table, message, 14, CRISP_NOTHING, 0, out, sizeof out);
+    return a.reply;
+}
+
+/* a refused change leaves the entry as it was; a start, or another key, keeps out what it has taken; the same key from 0 on does not */
+static int changes(size_t slot)
+{
+    static const uint8_t other_key[CRISP_KEY] = {1}, other_keyid[1] = {6};
+    struct crisp_answer a;
+    a = crisp_install(table, 0, other_keyid, 1, sender.source, sender.source_len, sender.suite, sender.edition, sender.key, CRISP_KEY, CRISP_SIZE, 0);
+    if (a.reply != CRISP_DONE || changes_to(a.slot, sender.key, CRISP_SIZE, 0) != CRISP_TWIN) return 1;
+    a = crisp_remove(table, a.slot);
+    if (a.reply != CRISP_DONE) return 1;
+    if (changes_to(CRISP_SLOTS, sender.key, CRISP_SIZE, 0) != CRISP_NO_SLOT || changes_to(slot, sender.key, CRISP_SIZE + 1, 0) != CRISP_UNSOUND) return 1;
+    if (again() != CRISP_REPEATED) return 1;
+    if (changes_to(slot, sender.key, CRISP_SIZE, 2) != CRISP_DONE || again() != CRISP_BELOW_FLOOR) return 1;
+    if (changes_to(slot, other_key, CRISP_SIZE, 0) != CRISP_DONE || again() != CRISP_WRONG_ICV) return 1;
+    return changes_to(slot, sender.key, CRISP_SIZE, 0) != CRISP_DONE || again() != CRISP_DONE;
+}
+
 int main(void)
 {
     struct crisp_answer a;
@@ -82,6 +115,7 @@ int main(void)
     a = crisp_listing(table, a.slot, out, sizeof out);
     if (a.reply != CRISP_DONE) return 4;
     if (restores(a.slot, a.length)) return 12;
+    if (changes(a.slot)) return 13;
     if (crisp_capture_order(message, sizeof message) != CRISP_BAD_CAPTURE) return 6;
     r = crisp_capture_record(message, sizeof message, CRISP_BAD_CAPTURE, CRISP_CAPTURE_HEADER);
     if (r.reply != CRISP_BAD_CAPTURE || r.source != r.next || r.message != r.next || r.next != sizeof message) return 7;

@@ -1097,7 +1097,7 @@ static void random_change(void)
     int from = below(4) ? taken_from(slot) : -1;
     uint64_t number = answered.seqnum;
     struct message old = kept[(keeps ? keeps - 1 : 0) % KEPT];
-    if (!below(3)) make_twin(slot);
+    if (below(2)) make_twin(slot);
     if (!below(8)) call_remove(below(slot + 1));
     size_t at = slot;
     enum how how = choose_change(&at, &n);
@@ -1205,7 +1205,7 @@ static void restart(void)
 
 static void random_call(void)
 {
-    switch (below(25)) {
+    switch (below(26)) {
     case 0: case 1: case 2: random_install(); break;
     case 3: if (!below(3)) call_remove(below(18)); break;
     case 4: call_listing(below(18), some_room()); break;
@@ -1214,7 +1214,7 @@ static void random_call(void)
     case 7: case 8: case 9: random_protect((int)below(ENTRIES), 1); break;
     case 10: case 11: random_load(); break;
     case 12: if (!below(2)) restart(); break;
-    case 13: case 14: random_change(); break;
+    case 13: case 14: case 15: random_change(); break;
     default: random_receive();
     }
 }
