@@ -10,6 +10,7 @@
 #ifdef PLAIN
 #include "reference.h"
 #define crisp_install ref_install
+#define crisp_change ref_change
 #define crisp_receive ref_receive
 #define crisp_protect ref_protect
 #define crisp_listing ref_listing
@@ -80,14 +81,30 @@ static int installs(uint64_t n)
     return 0;
 }
 
-/* the entry stands in slot `slot`, behind others, with that start; the window is put back before each arrival */
-static int arrives(const struct kind *k, size_t length, int slot, uint64_t start, int damage, uint64_t n, uint64_t reply)
+/* the entry stands in slot `slot`, behind others, with that start */
+static int stands(const struct kind *k, int slot, uint64_t start)
 {
     for (int i = 0; i < slot; i++) {
         uint8_t keyid[2] = {0x81, (uint8_t)i};
-        if (crisp_install(table, 1, keyid, 2, source, 12, k->suite, k->edition, key_bytes, 32, 256, 0).reply) return 1;
+        if (crisp_install(table, 1, keyid, 2, source, 12, k->suite, k->edition, key_bytes, 32, 256, 0).reply) return 0;
     }
-    if (install(k, 256, start).reply) return 1;
+    return install(k, 256, start).reply == 0;
+}
+
+/* the last entry of a full table gets a start, n times; a twin is looked for in all other slots */
+static int changes(uint64_t n)
+{
+    if (!stands(&a_1, CRISP_SLOTS - 1, 0)) return 1;
+    while (n--)
+        if (crisp_change(table, CRISP_SLOTS - 1, 1, (const uint8_t *)"\x30", 1, source, 12, a_1.suite, a_1.edition, key_bytes, 32, 256, a_1.number).reply)
+            return 1;
+    return 0;
+}
+
+/* the window is put back before each arrival */
+static int arrives(const struct kind *k, size_t length, int slot, uint64_t start, int damage, uint64_t n, uint64_t reply)
+{
+    if (!stands(k, slot, start)) return 1;
     struct crisp_sender s = sender_of(k);
     struct crisp_answer a = crisp_protect(&s, data, length, message, sizeof message);
     if (a.reply) return 1;
@@ -322,7 +339,7 @@ static const struct {
     {"block", block}, {"check-2048", check_2048}, {"counter-2048", counter_2048}, {"keys-suite-1", keys_suite_1}, {"keys-suite-2", keys_suite_2},
     {"receive-A.1", receive_a_1}, {"receive-A.2", receive_a_2}, {"receive-2048-suite-1", receive_2048_1}, {"receive-2048-suite-2", receive_2048_2},
     {"receive-A.1-slot-15", receive_slot_15}, {"refuse-version", refuse_version}, {"refuse-no-entry", refuse_no_entry},
-    {"refuse-no-entry-16-slots", refuse_no_entry_16}, {"refuse-icv", refuse_icv}, {"install", installs},
+    {"refuse-no-entry-16-slots", refuse_no_entry_16}, {"refuse-icv", refuse_icv}, {"install", installs}, {"change-16-slots", changes},
     {"receive-A.1-at-start", receive_at_start}, {"refuse-below-start", refuse_below_start}, {"protect-A.1", protect_a_1}, {"protect-A.2", protect_a_2},
     {"protect-2048-suite-1", protect_2048_1}, {"protect-2048-suite-2", protect_2048_2}, {"forget", forget},
     {"keys-suite-1-edition-1", keys_edition_1}, {"receive-A.1-edition-1", receive_old}, {"protect-A.1-edition-1", protect_old},

@@ -78,6 +78,15 @@ static void load(void)
     memcpy(table, before, sizeof table);
     answer = crisp_load(table, listed, listed_length);
 }
+/* beside an entry whose source differs from its own in the last byte, so that all of a name is compared */
+static void change(void)
+{
+    enum { SLOT = CRISP_TABLE / CRISP_SLOTS, LAST_OF_SOURCE = 134 + 31 };
+    memcpy(table, before, sizeof table);
+    memcpy(table + SLOT, before, SLOT);
+    table[SLOT + LAST_OF_SOURCE] ^= 1;
+    answer = crisp_change(table, 0, 1, keyid, 128, source, 32, suite, edition, key, 32, 256, 0);
+}
 static void removal(void)
 {
     memcpy(table, before, sizeof table);
@@ -209,7 +218,8 @@ static void gauge_calls(uint8_t of_suite, uint8_t of_edition, const char *what)
 {
     static const struct { const char *name; void (*call)(void); size_t limit; } calls[] = {
         {"install", install, CRISP_STACK - PUSHED}, {"protect", protect, 1024}, {"receive", receive, 1024}, {"listing", listing, CRISP_STACK - PUSHED},
-        {"load", load, CRISP_STACK - PUSHED}, {"remove", removal, CRISP_STACK - PUSHED}, {"report", report, 4096 - PUSHED},
+        {"load", load, CRISP_STACK - PUSHED}, {"remove", removal, CRISP_STACK - PUSHED}, {"change", change, CRISP_STACK - PUSHED},
+        {"report", report, 4096 - PUSHED},
     };
     suite = of_suite, edition = of_edition, longest = CRISP_PAYLOAD_OF(sizeof keyid, suite);
     sender = (struct crisp_sender){.flag = 1, .keyid = {0xff}, .keyid_len = 128, .source_len = 32, .suite = suite, .edition = edition};
