@@ -1,7 +1,7 @@
 /* compare.c: runs the library beside the second implementation (reference.c) on seeded random sequences of calls and on sweeps, and compares after
  * every call the four numbers of the answer, all bytes of the table, of the sender's record and of the output. At times all entries are listed, the table
- * is lost, and their listings are loaded: the table must be what it was, and the same calls, loads among them, must then do the same on both. At the first
- * difference it prints the sequence that showed it and stops.
+ * is lost, and their listings are loaded: the table must be what it was, and the same calls, loads among them, must then do the same on both. Each change
+ * is held against a removal and an install. At the first difference it prints the sequence that showed it and stops.
  *
  *   compare [SEQUENCES [SEED]]        100000 sequences and seed 1 where nothing is said */
 #include "crisp.h"
@@ -98,13 +98,14 @@ static uint64_t by_load[LOADS];
 
 /* changes that were done: with no free slot; to the name that stood there, which a lookup leads to or, as its stored length is over its room, does not;
  * to another name; of a damaged record; past another slot that would have been a twin but for a stored length over its room; where a removal and an
- * install would have come back to the slot, and where they would have taken a lower one */
-enum change { IN_FULL, SAME_NAME, BROKEN_NAME, OTHER_NAME, OF_DAMAGED, PAST_KEYID, PAST_SOURCE, SAME_BY_TWO, LOWER_BY_TWO, CHANGES };
+ * install would have come back to the slot, and where they would have taken a lower one; and to the same data, into which the entry's listing was loaded */
+enum change { IN_FULL, SAME_NAME, BROKEN_NAME, OTHER_NAME, OF_DAMAGED, PAST_KEYID, PAST_SOURCE, SAME_BY_TWO, LOWER_BY_TWO, THEN_LOADED, CHANGES };
 static const char *const change_names[CHANGES] = {"full table", "same name", "broken name", "another name", "damaged", "past a long KeyId",
-                                                  "past a long source", "as by two calls", "as by two in a lower slot"};
+                                                  "past a long source", "as by two calls", "as by two in a lower slot", "then loaded"};
 static uint64_t by_change[CHANGES];
 
-/* changes that were refused: with 16; with 13 for one thing alone; with 14 by twins below alone and above alone, and so where the slot itself has the name */
+/* changes that were refused: with 16; with 13 for one thing alone; with 14 by twins below alone or above alone, and so where the slot itself has the
+ * name too */
 enum no_slot { OVER_15, FREE, NO_SLOTS };
 static const char *const no_slot_names[NO_SLOTS] = {"over 15", "free"};
 static uint64_t by_no_slot[NO_SLOTS];
@@ -662,10 +663,13 @@ static int install_again(const uint8_t *from, size_t last)
 }
 
 /* an undamaged entry, changed to its own key data, Size and start, or removed and installed again in its slot */
+static int by_a_change;
+
 static int stands_again(size_t slot)
 {
     static uint8_t from[CRISP_TABLE];
-    if (below(2)) {
+    by_a_change = (int)below(2);
+    if (by_a_change) {
         struct next n = entry_in(table + SLOT * slot);
         call_change(slot, &n);
         return answered.reply == 0;
@@ -921,6 +925,7 @@ static void load_own(const struct text *own, size_t slot, int left_alone, int ol
         return;
     }
     by_load[older ? OLDER : OWN]++;
+    if (!left_alone && by_a_change) by_change[THEN_LOADED]++;
     call_listing(slot, 2048);
     if (answered.length != own->length || memcmp(out, own->bytes, own->length)) differs("the listing after a load");
 }
@@ -1001,14 +1006,21 @@ static void spoil_next(struct next *n)
     }
 }
 
-static size_t some_number_of_slot(void) { return below(2) ? below(18) : below(2) ? 16 + below(300) : below(2) ? rnd() : (1ULL << (4 + below(60))) - below(2); }
+static size_t any_slot(void)
+{
+    switch (below(4)) {
+    case 0: return 16 + below(300);
+    case 1: return below(2) ? rnd() : ((size_t)1 << (4 + below(60))) - below(2);
+    default: return below(18);
+    }
+}
 
 /* a change of a slot, and how it is meant; HOWS where something of it is spoilt, or the slot is another one */
 static enum how choose_change(size_t *slot, struct next *n)
 {
     enum how how = choose_next(*slot, n);
     if (!below(4)) spoil_next(n), how = HOWS;
-    if (!below(6)) *slot = some_number_of_slot(), how = HOWS;
+    if (!below(6)) *slot = any_slot(), how = HOWS;
     return how;
 }
 
@@ -1715,40 +1727,44 @@ static void archive_meets(size_t slot, const struct next *n, uint64_t reply, con
     call_listing(slot, 2048);
 }
 
-/* one thing of the key data is another */
+/* one thing of the key data is another, with start 0 */
 static void sweep_other_data(size_t slot)
 {
-    struct next n;
-    n = own, n.start = 0, n.data.key[31] ^= 1, archive_meets(slot, &n, 11, "a change to a new key");
+    struct next start_0 = own, n;
+    start_0.start = 0;
+    n = start_0, n.data.suite ^= OTHER_LENGTH, n.data.edition = 2, archive_meets(slot, &n, 8, "a change to another suite");
+    n = start_0, n.data.edition ^= 3;
+    if (own.data.suite == 1) archive_meets(slot, &n, 11, "a change to another edition");
+    n = start_0, n.data.source[0] ^= 1, archive_meets(slot, &n, own.data.flag ? 6 : 11, "a change to another source");
+    n = start_0, n.data.flag ^= 1, archive_meets(slot, &n, 6, "a change to another flag");
+    n = start_0, n.data.keyid[0] = 0x2a, n.data.keyid_len = 1, archive_meets(slot, &n, 6, "a change to another KeyId");
+    n = start_0, n.data.key[31] ^= 1, archive_meets(slot, &n, 11, "a change to a new key");
     struct crisp_sender s = n.data, r = n.data;
-    s.edition = r.edition = senders[archive[0].from].edition, s.current = r.current = 0;
-    struct crisp_answer a = call_protect(&s, &r, CRISP_NOTHING, 0, 2048);
     uint8_t first[2048];
+    struct crisp_answer a = call_protect(&s, &r, CRISP_NOTHING, 0, 2048);
     memcpy(first, out, sizeof first);
     call_receive(first, a.length, s.source, s.source_len, 2048);
     if (answered.reply || answered.slot != slot) differs("the first message by a new key");
-    n = own, n.start = 0, n.data.suite = own.data.suite ^ OTHER_LENGTH, n.data.edition = 2, archive_meets(slot, &n, 8, "a change to another suite");
-    if (own.data.suite == 1) n = own, n.start = 0, n.data.edition = (uint8_t)(3 - own.data.edition), archive_meets(slot, &n, 11, "a change to another edition");
-    n = own, n.start = 0, n.data.source[0] ^= 1, archive_meets(slot, &n, own.data.flag ? 6 : 11, "a change to another source");
-    n = own, n.start = 0, n.data.flag ^= 1, archive_meets(slot, &n, 6, "a change to another flag");
-    n = own, n.start = 0, n.data.keyid[0] = 0x2a, n.data.keyid_len = 1, archive_meets(slot, &n, 6, "a change to another KeyId");
 }
 
 /* every number of a slot, in a full table and in one that has a free slot */
 static void sweep_numbers(size_t slot)
 {
-    for (int freed = 0; freed < 2; freed++) {
-        for (size_t i = 0; i < 404; i++) {
-            size_t at = i < 300 ? i : i < 320 ? SIZE_MAX - (i - 300) : i < 340 ? SIZE_MAX / SLOT + (i - 330) : (size_t)1 << (i % 64);
-            for (size_t more = 0; more < (i < 300 ? 1 : 17); more++) {
-                back();
-                if (freed) call_remove((slot + 5) % CRISP_SLOTS);
-                struct next n = own;
-                n.data.keyid[0] = 0x2a, n.data.keyid_len = 1;
-                call_change(at + more, &n);
-                if (answered.reply != (at + more > 15 || (freed && at + more == (slot + 5) % CRISP_SLOTS) ? 16 : 0)) differs("a change by the number of a slot");
-            }
-        }
+    static const size_t around[] = {0, SIZE_MAX - 300, SIZE_MAX / SLOT - 20};           /* 288 times the last ones goes round to the table's beginning */
+    static size_t numbers[3 * 320 + 64 * 18];
+    size_t count = 0, freed = (slot + 5) % CRISP_SLOTS;
+    for (size_t k = 0; k < 3; k++)
+        for (size_t i = 0; i < 320; i++) numbers[count++] = around[k] + i;
+    for (int bit = 0; bit < 64; bit++)
+        for (size_t i = 0; i < 18; i++) numbers[count++] = ((size_t)1 << bit) + i - 1;
+    struct next n = own;
+    n.data.keyid[0] = 0x2a, n.data.keyid_len = 1;
+    for (size_t k = 0; k < 2 * count; k++) {
+        size_t at = numbers[k / 2];
+        back();
+        if (k % 2) call_remove(freed);
+        call_change(at, &n);
+        if (answered.reply != (at > 15 || (k % 2 && at == freed) ? 16 : 0)) differs("a change by the number of a slot");
     }
 }
 
@@ -1802,8 +1818,8 @@ static void sweep_names(void)
         }
 }
 
-/* Another slot is a copy of this one, by hand, as it is, with any first byte, with each stored length: this one is changed to the name that it has, and so
- * is the other; then to another name, and messages go where the name still stands. */
+/* Another slot is a copy of this one, by hand, with any first byte and each stored length: this one is changed to the name that it has, and so is the
+ * other; then to another name, and messages go where the name still stands. */
 static void sweep_copies(size_t slot)
 {
     for (size_t i = 0; i < CRISP_SLOTS; i++) {
