@@ -7,8 +7,8 @@
  *
  * All functions: no input has to be checked first, and every call returns. Those on a table or a record answer a refusal by its number, with
  * length, slot and seqnum 0, and it changes nothing: not the table, not the record, not the output. One table or one record is used by one call at a time; there is no other
- * state, so different tables may be used at once. Keys are handed in as bytes and are copied into the table; a removed entry leaves zeros, and a
- * changed one nothing.
+ * state, so different tables may be used at once. Keys are handed in as bytes and are copied into the table; a removed entry leaves zeros, and of
+ * one that is changed nothing is left.
  *
  * Pointers: each points to as many bytes as its length says, at any address; a record is aligned as its type is. None may be null, not even with
  * length 0: CRISP_NOTHING is there for that. A buffer that a call writes must not overlap another one that it is lent. Nothing is promised of a
@@ -252,11 +252,11 @@ struct crisp_answer crisp_remove(uint8_t table[CRISP_AT_LEAST CRISP_TABLE], size
  * crisp_install is done, and stays so where that is refused; and the install takes the lowest free slot, which may be another one. Where a change is
  * refused, the old entry stands as it was, window and totals, and takes the next message.
  *
- * The old entry's history ends, and a new one begins. With a new key start is 0: every old message fails its check (11). The same key has a past: list
- * the entry first, after its last arrival, and hand in as start the larger of its start and one more than its highest number, as is said at
- * crisp_install. Then nothing that was counted before the change is handed out after it. Changed to the same key with start 0, for another window
- * say, the entry lets its whole archive pass once more: each old message is genuine, its number is new to the fresh entry, and it is booked a second
- * time.
+ * The old entry's history ends, and a new one begins. With a new key start is 0: an old message fails its check (11), as a forged one does. The same
+ * key has a past: list the entry first, after its last arrival, and hand in as start the larger of its start and one more than its highest number, as
+ * is said at crisp_install. Then nothing that was counted before the change is handed out after it. Changed to the same key with start 0, for another
+ * window say, the entry lets its whole archive pass once more: each old message is genuine, its number is new to the fresh entry, and it is booked a
+ * second time.
  *
  * The window does not come along. What is still under way is lost, with a start what lies below it (9) and with a new key what was made with the old
  * one (11): let it arrive first. The totals begin at 0, so save the old listing where they are to be answered for. And save the table, or a new
