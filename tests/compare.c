@@ -239,7 +239,7 @@ struct next {
     size_t key_len;
 };
 
-/* whether an occupied slot has the flag and KeyId and, for flag 1, source, as far as its stored lengths go; those of sound key data */
+/* whether an occupied slot has the flag and KeyId and, for flag 1, source of sound key data; that a stored length is over its room is not looked at */
 static int has_name(const uint8_t *slot, const struct crisp_sender *s)
 {
     return slot[0] && slot[FLAG] == s->flag && slot[KEYID_LEN] == s->keyid_len && !memcmp(slot + KEYID, s->keyid, s->keyid_len)
@@ -1047,21 +1047,7 @@ static void damage_entry(size_t slot)
     else put(at + HIGHEST + below(56), some_byte());
 }
 
-/* the sender whose next message the entry takes now, or -1; it is the last that is kept */
-static int taken_from(size_t slot)
-{
-    for (int i = 0; i < ENTRIES; i++) {
-        int before = keeps;
-        if (!has_name(table + SLOT * slot, &senders[i])) continue;
-        random_protect(i, 1);
-        if (keeps == before) continue;
-        const struct message *m = &kept[(keeps - 1) % KEPT];
-        call_receive(m->bytes, m->length, senders[i].source, senders[i].source_len, 2048);
-        if (!answered.reply && answered.slot == slot) return i;
-    }
-    return -1;
-}
-
+/* whether the sender's next message is handed out; it is then the last that is kept */
 static int next_passes(int from)
 {
     int before = keeps;
@@ -1070,6 +1056,14 @@ static int next_passes(int from)
     const struct message *m = &kept[(keeps - 1) % KEPT];
     call_receive(m->bytes, m->length, senders[from].source, senders[from].source_len, 2048);
     return answered.reply == 0;
+}
+
+/* the sender whose next message the entry takes now, or -1 */
+static int taken_from(size_t slot)
+{
+    for (int i = 0; i < ENTRIES; i++)
+        if (has_name(table + SLOT * slot, &senders[i]) && next_passes(i) && answered.slot == slot) return i;
+    return -1;
 }
 
 /* the sender goes on with that key, from number 0 */
@@ -1082,12 +1076,12 @@ static void take_key(int i, const uint8_t key[CRISP_KEY])
 /* a message that the slot's entry had taken before a change, once more, and the sender's next */
 static void arrives_after(const struct message *old, uint64_t number, size_t slot, enum how how, const struct next *n)
 {
-    uint64_t changed = answered.reply;
+    uint64_t refused = answered.reply;
     const struct crisp_sender *s = &senders[old->from];
     call_receive(old->bytes, old->length, s->source, s->source_len, 2048);
-    int here = answered.slot == slot, again = answered.reply == 0 && here;
-    if (again && (changed || n->start > number)) differs("a message from before a change");
-    if (changed) {
+    int again = answered.reply == 0 && answered.slot == slot;
+    if (again && (refused || n->start > number)) differs("a message from before a change");
+    if (refused) {
         by_after[NEXT_REFUSED] += next_passes(old->from) && answered.slot == slot;
         return;
     }
