@@ -352,8 +352,8 @@ struct crisp_record crisp_capture_record(const uint8_t *file, size_t file_len, u
  * and leaves none.
  *
  * crisp_forget clears CRISP_STACK bytes below its caller's frame, and the registers that a call need not keep. Call it from the function that
- * made the call, right after it. It is not proved; the tests find keys after crisp_receive and crisp_protect, none after crisp_load, and none after
- * any of these five, of an entry's old key neither, once crisp_forget was called. */
+ * made the call, right after it. It is not proved; the tests find keys after crisp_receive and crisp_protect, none after crisp_load, nothing of an
+ * entry's old key after crisp_change, and no key after any of these five once crisp_forget was called. */
 #if defined(__GNUC__) && defined(__x86_64__)
 __attribute__((noinline, unused)) static void crisp_forget(void)
 {
