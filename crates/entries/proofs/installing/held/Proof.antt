@@ -14,7 +14,7 @@ use Rattle.entries.proofs.installing.held.Tie as tie
 returns : tie.Need-returns
 returns c =
     let a = c .before .args in
-    sym (ap (λ (b : Bool). b && occupied (slotOf (a .table .now) (a .slot))) (le-ltb (a .slot) slotCount (c .if1 .taken)))
+    sym (ap (λ (b : Bool). b && occupied (slotOf (a .table .now) (a .slot))) (le-ltb (a .slot) slotCount (omega (arith, c .if1 .taken))))
 
 returns-2 : tie.Need-returns-2
 returns-2 c =
