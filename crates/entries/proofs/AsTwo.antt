@@ -29,7 +29,7 @@ use Rattle.entries.specs.Fresh.{freshSlot}
 use Rattle.entries.specs.Install.{Left, doneAt, placed, unlessTwin, installed, removed}
 use Rattle.entries.proofs.Changes.{changes-not, changes-unfair, changes, changes-alone}
 use Rattle.entries.proofs.Fresh.{length-fresh}
-use Rattle.entries.proofs.Installs.{fair-facts, installs-unfair, installs, installs-alone}
+use Rattle.entries.proofs.Installs.{fair-facts, installs-unfair, installs}
 use Rattle.entries.proofs.Outcomes.{Refuses, Enters, Frees, install-outcome, remove-outcome}
 use Rattle.entries.proofs.Removing.{removes-not, removes, held-small, is-held}
 

@@ -1,7 +1,7 @@
 -- Changing an entry (02, No. 7). A change is a removal and an install without the gap. Done, it begins a history; refused, it leaves the table and so every
 -- history as it was. With a start above what was counted before, nothing of that is handed out again; with start 0 and the same key data all of it is.
 -- Assumes nothing.
-use mathlib.Core.Path.{_≡_, refl, sym, ap, subst, _∙_}
+use mathlib.Core.Path.{_≡_, sym, ap, subst, _∙_}
 use mathlib.Core.Bool.{Bool, true, false, false≢true, cond, _&&_}
 use mathlib.Core.List.{List, [], _∷_}
 use mathlib.Core.Logic.{_⊎_, inl, inr}
@@ -37,7 +37,7 @@ use Rattle.promises.proofs.Counting.{counted-told}
 use Rattle.promises.proofs.History.{history, history-traced}
 use Rattle.promises.proofs.Refusals.{change-keeps}
 use Rattle.promises.proofs.Starts.{start-above, start-above-highest}
-use Rattle.promises.proofs.Traces.{allowed-called, trace-results}
+use Rattle.promises.proofs.Traces.{allowed-called}
 
 module _ (t : List ℕ) (long : length t ≡ tableLength) (i : ℕ) (k : KeyData) (f : Frame) (bytes : Bytes (k .keyId)) where
   -- ---- a removal and an install

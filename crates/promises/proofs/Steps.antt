@@ -47,7 +47,7 @@ use Rattle.loading.proofs.Outcomes.{Takes, load-outcome}
 use Rattle.gateway.specs.Receive.{Received, kept, handedOut, judged, arrived, led, parsed, received}
 use Rattle.gateway.proofs.Arrivals.{other-suite, by-verdict, wrong-icv, right-icv}
 use Rattle.gateway.proofs.Cascade.{of-arrived}
-use Rattle.promises.specs.Calls.{Call, arrival, install, remove, change, load, OfBytes, called, after, isDone}
+use Rattle.promises.specs.Calls.{Call, arrival, install, remove, change, load, OfBytes, called, after}
 use Rattle.promises.specs.Counted.{Beginning, Message, isBelow, isUsed, isOf, Told, apart, below, used, forged, new, tested, toldOf, told}
 use Rattle.promises.specs.History.{replyTo, Handed, nothing, one, countedOf, answered, handed, ends}
 use Rattle.promises.proofs.Counting.{Agrees, verdict-agrees, still-agrees, taken-agrees}
