@@ -1,9 +1,5 @@
-pub mod Chains
-pub mod Halves
 pub mod Loads
 pub mod Marks
 pub mod Outcomes
 pub mod RoundTrip
 pub mod Standing
-pub mod Stretches
-pub mod Texts

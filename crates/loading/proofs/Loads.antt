@@ -13,7 +13,7 @@ use Rattle.window.specs.Entry.{undamagedEntry}
 use Rattle.slots.specs.Table.{slotOf, keyDataOf, settled, slotCount}
 use Rattle.slots.proofs.Slots.{lent, slot-lent}
 use Rattle.entries.specs.Install.{IsLeft, doneAt}
-use Rattle.loading.specs.Form.{Listing, listingIn}
+use Rattle.form.specs.Form.{Listing, listingIn}
 use Rattle.loading.specs.Load.{stands, listedEntry, takenUp, loaded}
 
 -- ---- in the table

@@ -19,14 +19,14 @@ use Rattle.slots.specs.Table.{slotOf, keyDataOf, entryOf, settled, slotCount, t
 use Rattle.slots.specs.Record.{undamaged}
 use Rattle.slots.proofs.Damage.{undamaged-by-entry}
 use Rattle.slots.proofs.Replacing.{length-replaced}
-use Rattle.slots.proofs.Settled.{SameKeys, same-keydata, settled-keys, settledSlot, length-slot, as-replaced, slot-settled, entry-written, entry-settled}
+use Rattle.slots.proofs.Settled.{Fits, SameKeys, same-keydata, settled-keys, settledSlot, length-slot, as-replaced, slot-settled, entry-written, entry-settled}
 use Rattle.slots.proofs.Slots.{slot-length}
 use Rattle.entries.specs.Install.{doneAt}
 use Rattle.entries.proofs.Outcomes.{Refuses}
-use Rattle.loading.specs.Form.{Listing, listingIn}
+use Rattle.form.specs.Form.{Listing, listingIn}
 use Rattle.loading.specs.Load.{stands, listedEntry, loadable, takenUp, takenUpFrom, loaded}
 use Rattle.loading.proofs.Standing.{Stands, stand-facts, same-frame}
-use Rattle.loading.proofs.Texts.{listing-fits}
+use Rattle.form.proofs.Texts.{listing-fits}
 
 -- the entry takes what is listed
 pub record Takes (t text : List ℕ) (l : Listing) : Type 0 where
@@ -110,7 +110,9 @@ loadable-is t text long l read small there =
     let s = stand-facts (l .settled) (slotOf t i) there in
     let keys = settled-keys (slotOf t i) e (slot-length t i long small) (s .named .alike .keyid-short) (s .named .alike .source-short) in
     let same-data : keyDataOf (slotOf (settled t i e) i) ≡ keyDataOf (slotOf t i) = ap keyDataOf (slot-settled t i e long small) ∙ same-keydata keys in
-    let entry = entry-written t i e long small (listing-fits text l read) (same-frame (l .settled .terms) (slotOf t i) (s .terms)) in
+    let h = listing-fits text l read in
+    let fits : Fits e = record { highest = h .highest; marks = h .marks; accepted = h .accepted; bytes = h .bytes } in
+    let entry = entry-written t i e long small fits (same-frame (l .settled .terms) (slotOf t i) (s .terms)) in
     sym (ap (λ (k : KeyData). soundOf k && undamagedEntry (entryOf (slotOf (settled t i e) i))) same-data ∙ ap (λ (x : Entry). soundOf (keyDataOf (slotOf t i)) && undamagedEntry x) entry)
 
 pub load-length : (t text : List ℕ) → length t ≡ tableLength → length (loaded t text .table) ≡ tableLength

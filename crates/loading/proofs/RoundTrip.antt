@@ -19,11 +19,11 @@ use Rattle.slots.proofs.Damage.{undamaged-sound, undamaged-entry}
 use Rattle.entries.specs.Install.{doneAt}
 use Rattle.entries.proofs.Bounds.{suite-byte, edition-byte}
 use Rattle.listing.specs.Listing.{namedLines, termLines, movedLines, listingOf, listed}
-use Rattle.loading.specs.Form.{SettledValues, MovedValues, Listing, listingIn}
+use Rattle.form.specs.Form.{SettledValues, MovedValues, Listing, listingIn}
 use Rattle.loading.specs.Load.{stands, listedEntry, loaded}
 use Rattle.loading.proofs.Loads.{is-read, takes-up}
 use Rattle.loading.proofs.Outcomes.{Takes, taken-keys, taken-entry}
-use Rattle.loading.proofs.Texts.{namedText, termText, movedText, listingText, Plain, text-reads, listing-text}
+use Rattle.form.proofs.Texts.{namedText, termText, movedText, listingText, Plain, text-reads, listing-text}
 
 -- ---- the listed values of an entry in slot i
 

@@ -12,9 +12,9 @@ use Rattle.octets.proofs.Same.{same-true}
 use Rattle.slots.specs.Table.{csOf, editionOf, sourceOf, frameOf, entryOf}
 use Rattle.lookup.specs.Lookup.{matches}
 use Rattle.lookup.proofs.Matching.{Alike, same-test, match-facts, by-source, match-test}
-use Rattle.loading.specs.Form.{NamedValues, SettledValues}
+use Rattle.form.specs.Form.{NamedValues, SettledValues}
 use Rattle.loading.specs.Load.{namedSo, termsSo, stands}
-use Rattle.loading.specs.declared.lines.TermLines.{TermLines}
+use Rattle.form.specs.declared.lines.TermLines.{TermLines}
 
 -- flag, KeyId and source
 pub record NamedAlike (v : NamedValues) (s : List ℕ) : Type 0 where

@@ -14,8 +14,8 @@ use Rattle.window.specs.Entry.{Entry, undamagedEntry}
 use Rattle.slots.specs.Table.{slotOf, csOf, editionOf, sourceOf, keyDataOf, frameOf, entryOf, settled, slotCount}
 use Rattle.lookup.specs.Lookup.{matches}
 use Rattle.entries.specs.Install.{Left, doneAt}
-use Rattle.loading.specs.Form.{NamedValues, SettledValues, Listing, listingIn}
-use Rattle.loading.specs.declared.lines.TermLines.{TermLines}
+use Rattle.form.specs.Form.{NamedValues, SettledValues, Listing, listingIn}
+use Rattle.form.specs.declared.lines.TermLines.{TermLines}
 
 -- ---- no such entry with accepted 0
 

@@ -4,8 +4,6 @@ ghost use Rattle.loading.specs.Load.{loaded};
 use answers::Answer;
 use slots::layout::TABLE;
 
-mod lines; // lines.rt: the lines of a listing, stretch by stretch
-mod reader; // reader.rt: the text, and the place that is reached
 mod taking; // taking.rt: the entry that a listing names, and what it takes
 
 // The entry that a listing names, as `listing` prints it, takes the listed window and totals; the answer has its slot. Refuses with 21 (text not in

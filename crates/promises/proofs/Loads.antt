@@ -29,7 +29,7 @@ use Rattle.entries.specs.Install.{Left, doneAt}
 use Rattle.entries.proofs.Outcomes.{Refuses}
 use Rattle.listing.specs.Listing.{listingOf, listed}
 use Rattle.listing.proofs.Listed.{lists}
-use Rattle.loading.specs.Form.{Listing, listingIn}
+use Rattle.form.specs.Form.{Listing, listingIn}
 use Rattle.loading.specs.Load.{stands, listedEntry, loaded}
 use Rattle.loading.proofs.Outcomes.{Takes, load-outcome, taken-keys, taken-entry, taken-undamaged}
 use Rattle.loading.proofs.RoundTrip.{settledOf, printed-after}

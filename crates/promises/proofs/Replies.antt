@@ -27,7 +27,7 @@ use Rattle.listing.specs.Listing.{Listed, listed, listingOf}
 use Rattle.entries.specs.Change.{changed}
 use Rattle.entries.specs.Fresh.{freshSlot}
 use Rattle.entries.specs.Install.{Left, installed, removed, unlessTwin, placed}
-use Rattle.loading.specs.Form.{Listing, listingIn}
+use Rattle.form.specs.Form.{Listing, listingIn}
 use Rattle.loading.specs.Load.{takenUp, takenUpFrom, loaded}
 use Rattle.gateway.specs.Receive.{Received, received, parsed, led, arrived, judged, checked, unsealed, handedOut, kept}
 use Rattle.lookup.specs.Lookup.{leadsTo, leadsElsewhere, firstFree}

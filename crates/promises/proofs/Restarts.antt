@@ -40,7 +40,7 @@ use Rattle.entries.proofs.Outcomes.{Refuses, Enters, Frees, install-outcome, re
 use Rattle.entries.proofs.Removing.{removes, is-held}
 use Rattle.listing.specs.Listing.{listingOf, listed}
 use Rattle.listing.proofs.Listed.{lists}
-use Rattle.loading.specs.Form.{SettledValues, Listing}
+use Rattle.form.specs.Form.{SettledValues, Listing}
 use Rattle.loading.specs.Load.{stands, listedEntry, loaded}
 use Rattle.loading.proofs.Loads.{is-read, takes-up}
 use Rattle.loading.proofs.Outcomes.{Takes, load-outcome}

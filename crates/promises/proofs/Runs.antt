@@ -15,7 +15,7 @@ use Rattle.slots.proofs.Damage.{undamaged-sound, undamaged-entry}
 use Rattle.entries.specs.Change.{changed}
 use Rattle.entries.specs.Install.{removed}
 use Rattle.entries.proofs.Outcomes.{Refuses, Frees, Changes, remove-outcome, change-outcome, install-length, remove-length, change-length}
-use Rattle.loading.specs.Form.{Listing}
+use Rattle.form.specs.Form.{Listing}
 use Rattle.loading.specs.Load.{loaded}
 use Rattle.loading.proofs.Outcomes.{Takes, load-outcome, load-length}
 use Rattle.gateway.proofs.Cascade.{received-length}

@@ -41,7 +41,7 @@ use Rattle.entries.specs.Install.{Left, doneAt, installed, removed}
 use Rattle.entries.proofs.Fresh.{length-fresh, fresh-keydata}
 use Rattle.entries.proofs.Installs.{Fair}
 use Rattle.entries.proofs.Outcomes.{Refuses, Enters, Frees, Changes, install-outcome, remove-outcome, change-outcome}
-use Rattle.loading.specs.Form.{Listing}
+use Rattle.form.specs.Form.{Listing}
 use Rattle.loading.specs.Load.{listedEntry, loaded}
 use Rattle.loading.proofs.Outcomes.{Takes, load-outcome}
 use Rattle.gateway.specs.Receive.{Received, kept, handedOut, judged, arrived, led, parsed, received}

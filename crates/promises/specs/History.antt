@@ -19,7 +19,7 @@ use Rattle.slots.specs.Table.{slotOf, windowOf, entryOf, keyDataOf, tableLength
 use Rattle.slots.specs.Record.{undamaged}
 use Rattle.lookup.specs.Lookup.{leadsTo}
 use Rattle.lookup.specs.declared.Found.the-variants.{At}
-use Rattle.loading.specs.Form.{Listing, listingIn}
+use Rattle.form.specs.Form.{Listing, listingIn}
 use Rattle.gateway.specs.Receive.{Received}
 use Rattle.promises.specs.Calls.{Call, arrival, install, remove, change, load, OfBytes, called, run, results, isDone}
 use Rattle.promises.specs.Counted.{Beginning, Message, Told, apart, below, used, forged, new, messages, numbersOf, numbers, isIn, highestSince, isOf, told}

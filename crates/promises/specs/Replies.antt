@@ -25,7 +25,7 @@ use Rattle.lookup.specs.Lookup.{leadsTo, leadsElsewhere, firstFree}
 use Rattle.slots.specs.Record.{undamaged}
 use Rattle.lookup.specs.declared.Found.{Found}
 use Rattle.lookup.specs.declared.Found.the-variants.{At, Nothing}
-use Rattle.loading.specs.Form.{Listing, listingIn}
+use Rattle.form.specs.Form.{Listing, listingIn}
 use Rattle.loading.specs.Load.{stands, listedEntry, loadable}
 use Rattle.capture.specs.Capture.{recordLength, magicOf, isBad, capturedAt, originalAt, isCut, isUnreadable}
 use Rattle.capture.specs.declared.order.Order.{Order}

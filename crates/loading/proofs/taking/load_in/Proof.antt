@@ -9,11 +9,11 @@ use borrow.Author.Needs.{needs}
 use lib.ListN.{length, drop}
 use Rattle.text.specs.Reading.{got}
 use Rattle.entries.specs.Install.{Left}
-use Rattle.loading.specs.Form.{readSettled, readMoved, listingIn}
-use Rattle.loading.specs.Found.{settledValues, movedValues, NamedWithin, MovedWithin}
-use Rattle.loading.proofs.Halves.{first-bad, first-is, second-bad, second-is}
+use Rattle.form.specs.Form.{readSettled, readMoved, listingIn}
+use Rattle.form.specs.Found.{settledValues, movedValues, NamedWithin, MovedWithin}
+use Rattle.form.proofs.Halves.{first-bad, first-is, second-bad, second-is}
 use Rattle.loading.proofs.Loads.{not-read, is-read}
-use Rattle.loading.proofs.Stretches.{no-settled, no-moved, more-behind, all-read}
+use Rattle.form.proofs.Stretches.{no-settled, no-moved, more-behind, all-read}
 use Rattle.loading.proofs.taking.load_in.Statement.{statement}
 use Rattle.loading.proofs.taking.load_in.Tie as tie
 

@@ -10,7 +10,7 @@ use Rattle.octets.proofs.Same.{same-true}
 use Rattle.text.specs.Found.{bytesIn}
 use Rattle.slots.specs.Table.{keyIdOf, sourceOf, keyIdLengthAt, sourceLengthAt}
 use Rattle.lookup.proofs.Matching.{Alike, same-test}
-use Rattle.loading.specs.Found.{namedValues}
+use Rattle.form.specs.Found.{namedValues}
 use Rattle.loading.proofs.Standing.{not-named, source-decides}
 use Rattle.loading.proofs.taking.named_so.Statement.{statement}
 use Rattle.loading.proofs.taking.named_so.Tie as tie

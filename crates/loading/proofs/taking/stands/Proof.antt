@@ -5,7 +5,7 @@ use Prim.Native.Nat.{ℕ}
 use borrow.Author.Needs.{needs}
 use borrow.Author.Tests.{not-true, not-false}
 use lib.Dec.{eqb}
-use Rattle.loading.specs.Found.{namedValues, settledValues}
+use Rattle.form.specs.Found.{namedValues, settledValues}
 use Rattle.loading.specs.Load.{namedSo}
 use Rattle.loading.proofs.Standing.{by-total, other-name, other-terms}
 use Rattle.loading.proofs.taking.stands.Statement.{statement}

@@ -8,8 +8,8 @@ use Rattle.window.specs.Window.{View}
 use Rattle.window.specs.Entry.{undamagedEntry}
 use Rattle.slots.specs.Table.{settled}
 use Rattle.slots.proofs.Slots.{lent}
-use Rattle.loading.specs.Form.{Listing}
-use Rattle.loading.specs.Found.{settledValues, movedValues}
+use Rattle.form.specs.Form.{Listing}
+use Rattle.form.specs.Found.{settledValues, movedValues}
 use Rattle.loading.specs.Load.{stands, listedEntry}
 use Rattle.loading.proofs.Loads.{no-slot, not-standing, unsound, unfit, taken-up}
 use Rattle.loading.proofs.taking.take_up.Statement.{statement}

@@ -1,0 +1,4 @@
+pub mod Chains
+pub mod Halves
+pub mod Stretches
+pub mod Texts

@@ -1,0 +1,66 @@
+// A reader: the text of a listing, and the place that it has reached. Its functions are thin, over those of `lines`, and proved by hand.
+ghost use mathlib.Core.Path.{_≡_};
+ghost use lib.ListN.{drop};
+ghost use Rattle.form.specs.Form.{readSettled, readMoved};
+ghost use Rattle.form.specs.Found.{FindsSettled, FindsMoved, LinesFound};
+use crate::lines;
+use crate::lines::Moved;
+use crate::lines::Settled;
+
+pub struct Reader<'a> {
+    pub text: &'a [u8],
+    pub at: usize,
+}
+
+// What a text was found to be, in two stretches.
+pub struct Lines {
+    pub settled: Settled,
+    pub moved: Moved,
+}
+
+// A text is read: from its start what an install settled, and behind that what the arrivals moved.
+pub fn read(text: &[u8]) -> Lines
+    ensures { λ r. ⌜ LinesFound (now (text .entry)) r ⌝ }
+{
+    let start = new(text);
+    let first = settled(start);
+    joined(first, moved(on(start, lines::place(first))))
+}
+
+// A reader at the start of a text.
+pub fn new<'a>(text: &'a [u8]) -> Reader<'a>
+    ensures { λ r. ⌜ (r .text ≡ text .entry) × (r .at ≡ 0) ⌝ }
+{
+    Reader { text, at: 0 }
+}
+
+// The reader at another place of its text.
+pub fn on<'a>(r: Reader<'a>, at: usize) -> Reader<'a>
+    ensures { λ q. ⌜ (q .text ≡ r .entry .text) × (q .at ≡ at) ⌝ }
+{
+    Reader { text: r.text, at }
+}
+
+// The lines that an install settled, at the reader's place.
+pub fn settled<'a>(r: Reader<'a>) -> Settled
+    ensures { λ s. ⌜ FindsSettled (now (r .entry .text)) (readSettled (drop (r .entry .at) (now (r .entry .text)))) s ⌝ }
+{
+    lines::settled_at(r.text, r.at)
+}
+
+// The lines that the arrivals moved, at the reader's place.
+pub fn moved<'a>(r: Reader<'a>) -> Moved
+    ensures { λ m. ⌜ FindsMoved (now (r .entry .text)) (readMoved (drop (r .entry .at) (now (r .entry .text)))) m ⌝ }
+{
+    lines::moved_at(r.text, r.at)
+}
+
+// Both stretches as one answer, put together by a function so that `read` is nothing but calls.
+fn joined(first: Settled, second: Moved) -> Lines
+    ensures { λ r. ⌜ r ≡ record { settled = first; moved = second } ⌝ }
+{
+    Lines {
+        settled: first,
+        moved: second,
+    }
+}
