@@ -1,4 +1,4 @@
--- A change is a removal and an install without the gap: it answers what they would, and where the install would take the freed slot it leaves the same table.
+-- A change is a removal and an install without the gap: its reply is theirs, and where the install would take the freed slot it leaves the same table.
 -- Assumes nothing.
 use mathlib.Core.Path.{_≡_, refl, sym, ap, _∙_}
 use mathlib.Core.Bool.{Bool, true, false, cond, _&&_, not}
@@ -8,16 +8,14 @@ use Prim.Native.Nat.{ℕ, _≤_, _<_}
 use native.Mathlib.Decide.{ℕ-discrete}
 use native.Mathlib.Omega.{arith}
 use borrow.Author.Tests.{eq-eqb, ne-eqb}
-use lib.Dec.{eqb, ltb}
+use lib.Dec.{eqb}
 use lib.ListN.{length, length-replicate}
-use Rattle.numbers.proofs.Tests.{and-both}
 use Rattle.octets.specs.Octets.{Bytes}
 use Rattle.answers.specs.declared.Answer.{Answer}
-use Rattle.format.specs.KeyData.{KeyData, soundOf}
+use Rattle.format.specs.KeyData.{KeyData}
 use Rattle.format.proofs.Soundness.{sound-facts}
-use Rattle.window.specs.Window.{soundFrame}
 use Rattle.window.specs.declared.Frame.{Frame}
-use Rattle.slots.specs.Table.{slotOf, occupied, replaced, emptySlot, slotCount, slotLength, tableLength}
+use Rattle.slots.specs.Table.{slotOf, occupied, replaced, emptySlot, slotCount, slotLength, tableLength, isHeld}
 use Rattle.slots.proofs.Replacing.{slot-own, slot-other, replaced-again}
 use Rattle.lookup.specs.Lookup.{matches, leadsTo, leadsElsewhere, firstFree}
 use Rattle.lookup.specs.declared.Found.{Found}
@@ -26,10 +24,10 @@ use Rattle.lookup.proofs.Firsts.{first-same, free-found}
 use Rattle.lookup.proofs.Matching.{no-match}
 use Rattle.entries.specs.Change.{changed}
 use Rattle.entries.specs.Fresh.{freshSlot}
-use Rattle.entries.specs.Install.{Left, doneAt, placed, unlessTwin, installed, removed}
+use Rattle.entries.specs.Install.{Left, doneAt, placed, unlessTwin, installed, removed, isFair}
 use Rattle.entries.proofs.Changes.{changes-not, changes-unfair, changes, changes-alone}
 use Rattle.entries.proofs.Fresh.{length-fresh}
-use Rattle.entries.proofs.Installs.{fair-facts, installs-unfair, installs}
+use Rattle.entries.proofs.Installs.{fair-facts, is-fair, installs-unfair, installs}
 use Rattle.entries.proofs.Outcomes.{Refuses, Enters, Frees, install-outcome, remove-outcome}
 use Rattle.entries.proofs.Removing.{removes-not, removes, held-small, is-held}
 
@@ -60,7 +58,7 @@ module _ (t : List ℕ) (long : length t ≡ tableLength) (i : ℕ) where
     done u j = record { answer = doneAt j; table = replaced u j (freshSlot k f) }
 
     -- the install after the removal, where key data, Size and start are sound
-    installs-freed : i < slotCount → (soundOf k && soundFrame f) ≡ true → (led : Found) → leadsElsewhere t i (k .flag) (k .keyId) (k .source) ≡ led
+    installs-freed : i < slotCount → isFair k f ≡ true → (led : Found) → leadsElsewhere t i (k .flag) (k .keyId) (k .source) ≡ led
         → installed freed k f ≡ unlessTwin freed (placed freed (freshSlot k f) (firstFree freed)) led
     installs-freed small fair led l =
         installs freed k f (fair-facts k f fair)
@@ -69,9 +67,9 @@ module _ (t : List ℕ) (long : length t ≡ tableLength) (i : ℕ) where
     -- The reply to a change is that to the removal, if it is a refusal, and else that to the install after it.
     pub change-replies : let r = removed t i in
         changed t i k f .answer .reply ≡ cond (eqb (r .answer .reply) 0) (installed (r .table) k f .answer .reply) (r .answer .reply)
-    change-replies = by (ltb i slotCount && occupied (slotOf t i)) refl (soundOf k && soundFrame f) refl (leadsElsewhere t i (k .flag) (k .keyId) (k .source)) refl
+    change-replies = by (isHeld t i) refl (isFair k f) refl (leadsElsewhere t i (k .flag) (k .keyId) (k .source)) refl
       where
-        by : (held : Bool) → (ltb i slotCount && occupied (slotOf t i)) ≡ held → (fair : Bool) → (soundOf k && soundFrame f) ≡ fair
+        by : (held : Bool) → isHeld t i ≡ held → (fair : Bool) → isFair k f ≡ fair
             → (led : Found) → leadsElsewhere t i (k .flag) (k .keyId) (k .source) ≡ led
             → let r = removed t i in changed t i k f .answer .reply ≡ cond (eqb (r .answer .reply) 0) (installed (r .table) k f .answer .reply) (r .answer .reply)
         by false h fair s led l = rw (changes-not t i k f h, removes-not t i h)
@@ -91,9 +89,8 @@ module _ (t : List ℕ) (long : length t ≡ tableLength) (i : ℕ) where
         at-freed g (inl r) e = absurd (omega (arith, r .some, ap (λ (a : Answer). a .reply) (rw (r .is) at e)))
         at-freed g (inr (j, n)) e =
             let same : j ≡ i = ap (λ (a : Answer). a .slot) (rw (n .is) at e) in
-            let fair = and-both (soundOf k) (soundFrame f) (n .fair .sound) (n .fair .framed) in
             let full = length-fresh (sound-facts k (n .fair .sound)) (bytes 0) f in
-            changes-alone t i k f (is-held t i (g .small) (g .held)) fair (sym (freed-leads (g .small) (k .flag) (k .keyId) (k .source)) ∙ n .alone)
+            changes-alone t i k f (is-held t i (g .small) (g .held)) (is-fair (n .fair)) (sym (freed-leads (g .small) (k .flag) (k .keyId) (k .source)) ∙ n .alone)
             ∙ sym (n .is ∙ ap (done freed) same
             ∙ ap (λ (u : List ℕ). record { answer = doneAt i; table = u }) (replaced-again t i emptySlot long (g .small) empty-length (freshSlot k f) full))
 

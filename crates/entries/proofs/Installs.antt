@@ -1,7 +1,7 @@
 -- What install comes to, by the test that leads there.
 -- Assumes nothing.
 use mathlib.Core.Path.{_≡_, ap, _∙_}
-use mathlib.Core.Bool.{true, false, _&&_}
+use mathlib.Core.Bool.{true, false}
 use mathlib.Core.List.{List}
 use Prim.Native.Nat.{ℕ}
 use Rattle.window.specs.Window.{soundFrame}
@@ -12,7 +12,7 @@ use Rattle.answers.specs.declared.Answer.{Answer}
 use Rattle.format.specs.KeyData.{soundOf, KeyData}
 use Rattle.lookup.specs.Lookup.{leadsTo, firstFree}
 use Rattle.entries.specs.Fresh.{freshSlot}
-use Rattle.entries.specs.Install.{Left, IsLeft, placed, unlessTwin, installed}
+use Rattle.entries.specs.Install.{Left, IsLeft, placed, unlessTwin, installed, isFair}
 use Rattle.lookup.specs.declared.Found.the-variants.{Nothing}
 
 -- an answer and a table are those that a call leaves
@@ -25,17 +25,20 @@ pub record Fair (k : KeyData) (f : Frame) : Type 0 where
   pub framed : soundFrame f ≡ true
 
 -- the test of 13, as facts
-pub fair-facts : (k : KeyData) (f : Frame) → (soundOf k && soundFrame f) ≡ true → Fair k f
+pub fair-facts : (k : KeyData) (f : Frame) → isFair k f ≡ true → Fair k f
 fair-facts k f h = record { sound = and-left (soundOf k) (soundFrame f) h; framed = and-right (soundOf k) (soundFrame f) h }
 
+pub is-fair : {k : KeyData} {f : Frame} → Fair k f → isFair k f ≡ true
+is-fair {k} {f} fair = and-both (soundOf k) (soundFrame f) (fair .sound) (fair .framed)
+
 module _ (t : List ℕ) (k : KeyData) (f : Frame) where
-  pub installs-unfair : (soundOf k && soundFrame f) ≡ false → installed t k f ≡ record { answer = refused unsound; table = t }
+  pub installs-unfair : isFair k f ≡ false → installed t k f ≡ record { answer = refused unsound; table = t }
   unfolding installed
   installs-unfair e = rw e
 
   pub installs : Fair k f → installed t k f ≡ unlessTwin t (placed t (freshSlot k f) (firstFree t)) (leadsTo t (k .flag) (k .keyId) (k .source))
   unfolding installed
-  installs fair = rw (and-both _ _ (fair .sound) (fair .framed))
+  installs fair = rw (is-fair fair)
 
   pub installs-alone : Fair k f → leadsTo t (k .flag) (k .keyId) (k .source) ≡ Nothing → installed t k f ≡ placed t (freshSlot k f) (firstFree t)
   installs-alone fair none = installs fair ∙ ap (unlessTwin t (placed t (freshSlot k f) (firstFree t))) none

@@ -1,20 +1,20 @@
 -- What install, remove and change come to: a refusal, which leaves the table as it was, or done at one slot; and that its length stays.
 -- Assumes nothing.
 use mathlib.Core.Path.{_≡_, refl, ap, _∙_}
-use mathlib.Core.Bool.{Bool, true, false, _&&_}
+use mathlib.Core.Bool.{Bool, true, false}
 use mathlib.Core.List.{List}
 use mathlib.Core.Logic.{_⊎_, inl, inr}
 use Prim.Native.Nat.{ℕ, _≤_, _<_}
-use lib.Dec.{lit≤, ltb}
-use Rattle.window.specs.Window.{soundFrame}
+use native.Mathlib.Omega.{arith}
+use lib.Dec.{lit≤}
 use Rattle.window.specs.declared.Frame.{Frame}
 use Rattle.answers.specs.Answers.{refused, unsound, twin, full, noSlot}
-use Rattle.format.specs.KeyData.{soundOf, KeyData}
-use Rattle.slots.specs.Table.{slotOf, occupied, replaced, emptySlot, slotCount, slotLength, tableLength}
+use Rattle.format.specs.KeyData.{KeyData}
+use Rattle.slots.specs.Table.{slotOf, occupied, replaced, emptySlot, slotCount, slotLength, tableLength, isHeld}
 use Rattle.lookup.specs.Lookup.{leadsTo, leadsElsewhere, firstFree}
 use Rattle.entries.specs.Change.{changed}
 use Rattle.entries.specs.Fresh.{freshSlot}
-use Rattle.entries.specs.Install.{Left, doneAt, placed, unlessTwin, installed, removed}
+use Rattle.entries.specs.Install.{Left, doneAt, placed, unlessTwin, installed, removed, isFair}
 use Rattle.lookup.specs.declared.Found.{Found}
 use Rattle.lookup.specs.declared.Found.the-variants.{At, Nothing}
 use lib.ListN.{length, length-replicate}
@@ -44,9 +44,9 @@ module _ (t : List ℕ) (k : KeyData) (f : Frame) where
   fresh = freshSlot k f
 
   pub install-outcome : Refuses t (installed t k f) ⊎ ((i : ℕ) × Enters t k f i)
-  install-outcome = by (soundOf k && soundFrame f) refl (leadsTo t (k .flag) (k .keyId) (k .source)) refl (firstFree t) refl
+  install-outcome = by (isFair k f) refl (leadsTo t (k .flag) (k .keyId) (k .source)) refl (firstFree t) refl
     where
-      by : (b : Bool) → (soundOf k && soundFrame f) ≡ b → (led : Found) → leadsTo t (k .flag) (k .keyId) (k .source) ≡ led
+      by : (b : Bool) → isFair k f ≡ b → (led : Found) → leadsTo t (k .flag) (k .keyId) (k .source) ≡ led
           → (free : Found) → firstFree t ≡ free → Refuses t (installed t k f) ⊎ ((i : ℕ) × Enters t k f i)
       by false e led l free g = inl (record { reply = unsound; some = lit≤ tt; is = installs-unfair t k f e })
       by true e (At j) l free g =
@@ -79,9 +79,9 @@ pub record Frees (t : List ℕ) (i : ℕ) : Type 0 where
   pub is : removed t i ≡ record { answer = doneAt i; table = replaced t i emptySlot }
 
 pub remove-outcome : (t : List ℕ) (i : ℕ) → Refuses t (removed t i) ⊎ Frees t i
-remove-outcome t i = by (ltb i slotCount && occupied (slotOf t i)) refl
+remove-outcome t i = by (isHeld t i) refl
   where
-    by : (b : Bool) → (ltb i slotCount && occupied (slotOf t i)) ≡ b → Refuses t (removed t i) ⊎ Frees t i
+    by : (b : Bool) → isHeld t i ≡ b → Refuses t (removed t i) ⊎ Frees t i
     by false e = inl (record { reply = noSlot; some = lit≤ tt; is = removes-not t i e })
     by true e = inr (record { small = held-small t i e; held = held-occupied t i e; is = removes t i e })
 
@@ -94,9 +94,9 @@ pub record Changes (t : List ℕ) (i : ℕ) (k : KeyData) (f : Frame) : Type 0 w
   pub is : changed t i k f ≡ record { answer = doneAt i; table = replaced t i (freshSlot k f) }
 
 pub change-outcome : (t : List ℕ) (i : ℕ) (k : KeyData) (f : Frame) → Refuses t (changed t i k f) ⊎ Changes t i k f
-change-outcome t i k f = by (ltb i slotCount && occupied (slotOf t i)) refl (soundOf k && soundFrame f) refl (leadsElsewhere t i (k .flag) (k .keyId) (k .source)) refl
+change-outcome t i k f = by (isHeld t i) refl (isFair k f) refl (leadsElsewhere t i (k .flag) (k .keyId) (k .source)) refl
   where
-    by : (b : Bool) → (ltb i slotCount && occupied (slotOf t i)) ≡ b → (s : Bool) → (soundOf k && soundFrame f) ≡ s
+    by : (b : Bool) → isHeld t i ≡ b → (s : Bool) → isFair k f ≡ s
         → (led : Found) → leadsElsewhere t i (k .flag) (k .keyId) (k .source) ≡ led → Refuses t (changed t i k f) ⊎ Changes t i k f
     by false h s e led l = inl (record { reply = noSlot; some = lit≤ tt; is = changes-not t i k f h })
     by true h false e led l = inl (record { reply = unsound; some = lit≤ tt; is = changes-unfair t i k f h e })
@@ -114,6 +114,14 @@ change-outcome t i k f = by (ltb i slotCount && occupied (slotOf t i)) refl (sou
           alone = l;
           is = changes-alone t i k f h e l;
         })
+
+-- a change that is not refused
+pub change-done : (t : List ℕ) (i : ℕ) (k : KeyData) (f : Frame) → changed t i k f .answer .reply ≡ 0 → Changes t i k f
+change-done t i k f done = by (change-outcome t i k f)
+  where
+    by : Refuses t (changed t i k f) ⊎ Changes t i k f → Changes t i k f
+    by (inl r) = absurd (omega (arith, r .some, ap (λ (l : Left). l .answer .reply) (r .is)))
+    by (inr n) = n
 
 -- ---- the table stays as long as it was
 

@@ -1,16 +1,15 @@
 -- Install and remove (01, "Replies"): install refuses with 13, 14, 15 in that order, remove with 16. 02, No. 2: "a larger start gives 13 at
 -- install", No. 4: "another edition, or 1 with a suite other than 1, gives 13 at install".
 use mathlib.Core.Path.{_≡_}
-use mathlib.Core.Bool.{cond, _&&_}
+use mathlib.Core.Bool.{Bool, cond, _&&_}
 use mathlib.Core.List.{List}
 use Prim.Native.Nat.{ℕ}
-use lib.Dec.{ltb}
 use Rattle.answers.specs.Answers.{refused, unsound, twin, full, noSlot}
 use Rattle.answers.specs.declared.Answer.{Answer}
 use Rattle.format.specs.KeyData.{KeyData, soundOf}
 use Rattle.window.specs.Window.{soundFrame}
 use Rattle.window.specs.declared.Frame.{Frame}
-use Rattle.slots.specs.Table.{slotCount, slotOf, occupied, replaced, emptySlot}
+use Rattle.slots.specs.Table.{replaced, emptySlot, isHeld}
 use Rattle.lookup.specs.Lookup.{leadsTo, firstFree}
 use Rattle.entries.specs.Fresh.{freshSlot}
 use Rattle.lookup.specs.declared.Found.{Found}
@@ -30,6 +29,10 @@ pub record IsLeft (l : Left) (answer : Answer) (table : List ℕ) : Type 0 where
 abbrev pub doneAt : ℕ → Answer
 doneAt i = record { reply = 0; length = 0; slot = i; seqnum = 0 }
 
+-- whether key data, and Size and start with it, are sound: else 13
+abbrev pub isFair : KeyData → Frame → Bool
+isFair k f = soundOf k && soundFrame f
+
 -- "Install takes the lowest free slot, freed ones included, and starts fresh"
 abbrev pub placed : List ℕ → List ℕ → Found → Left
 placed t fresh (At i) = record { answer = doneAt i; table = replaced t i fresh }
@@ -42,11 +45,11 @@ unlessTwin t done Nothing = done
 
 unfoldable pub installed : List ℕ → KeyData → Frame → Left
 installed t k f =
-    cond (soundOf k && soundFrame f) (unlessTwin t (placed t (freshSlot k f) (firstFree t)) (leadsTo t (k .flag) (k .keyId) (k .source)))
+    cond (isFair k f) (unlessTwin t (placed t (freshSlot k f) (firstFree t)) (leadsTo t (k .flag) (k .keyId) (k .source)))
     (record { answer = refused unsound; table = t })
 
 -- "16: slot over 15, or free"; "A freed slot holds zeros only"
 unfoldable pub removed : List ℕ → ℕ → Left
 removed t i =
-    cond (ltb i slotCount && occupied (slotOf t i)) (record { answer = doneAt i; table = replaced t i emptySlot })
+    cond (isHeld t i) (record { answer = doneAt i; table = replaced t i emptySlot })
     (record { answer = refused noSlot; table = t })

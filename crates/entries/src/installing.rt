@@ -1,12 +1,9 @@
 // Entries put into the table and taken out, and what is asked before.
 ghost use mathlib.Core.Path.{_≡_};
-ghost use mathlib.Core.Bool.{_&&_};
-ghost use lib.Dec.{ltb};
 ghost use lib.ListN.{length};
-ghost use Rattle.format.specs.KeyData.{keyed, soundOf};
-ghost use Rattle.window.specs.Window.{soundFrame};
-ghost use Rattle.slots.specs.Table.{tableLength, slotCount, slotOf, occupied};
-ghost use Rattle.entries.specs.Install.{doneAt, IsLeft, installed, removed};
+ghost use Rattle.format.specs.KeyData.{keyed};
+ghost use Rattle.slots.specs.Table.{tableLength, isHeld};
+ghost use Rattle.entries.specs.Install.{doneAt, IsLeft, isFair, installed, removed};
 use crate::filling;
 use answers::Answer;
 use format::key_data;
@@ -57,7 +54,7 @@ pub(crate) fn remove_in(table: &mut [u8], slot: usize) -> Answer
 // Whether there is such a slot and it is occupied: if not, 16.
 pub(crate) fn held(table: &[u8], slot: usize) -> bool
     requires { ⌜ length (now table) ≡ tableLength ⌝ }
-    ensures { λ r. ⌜ r ≡ (ltb slot slotCount && occupied (slotOf (now (table .entry)) slot)) ⌝ }
+    ensures { λ r. ⌜ r ≡ isHeld (now (table .entry)) slot ⌝ }
 {
     if layout::SLOTS <= slot {
         return false;
@@ -67,7 +64,7 @@ pub(crate) fn held(table: &[u8], slot: usize) -> bool
 
 // Whether key data, Size and start are sound: if not, 13.
 pub(crate) fn fair(terms: Terms, keyid: &[u8], source: &[u8], key: &[u8], frame: Frame) -> bool
-    ensures { λ r. ⌜ r ≡ (soundOf (keyed terms (now (keyid .entry)) (now (source .entry)) (now (key .entry))) && soundFrame frame) ⌝ }
+    ensures { λ r. ⌜ r ≡ isFair (keyed terms (now (keyid .entry)) (now (source .entry)) (now (key .entry))) frame ⌝ }
 {
     if !key_data::sound(terms, keyid, source, key) {
         return false;

@@ -1,7 +1,7 @@
 -- What a listing comes to: each refusal by its own test, the lines of an entry, and that they fit the output.
 -- Assumes nothing.
 use mathlib.Core.Path.{_≡_, refl, sym, ap, _∙_}
-use mathlib.Core.Bool.{true, false, _&&_, and-false}
+use mathlib.Core.Bool.{true, false, and-false}
 use mathlib.Core.List.{List}
 use Prim.Native.Nat.{ℕ, _*_, _≤_, _<_}
 use native.Mathlib.Nat.{add-zero}
@@ -14,7 +14,7 @@ use Rattle.numbers.proofs.Tests.{either}
 use Rattle.octets.proofs.BigEndian.{length-bytes}
 use Rattle.answers.specs.Answers.{refused, outputRoom, outputSmall, damaged, noSlot}
 use Rattle.answers.specs.declared.Answer.{Answer}
-use Rattle.slots.specs.Table.{slotOf, occupied, flagOf, csOf, editionOf, keyIdLengthOf, keyIdOf, sourceLengthOf, sourceOf, entryOf, slotLength, slotCount, occupiedAt, keyIdAt, sourceAt}
+use Rattle.slots.specs.Table.{slotOf, occupied, flagOf, csOf, editionOf, keyIdLengthOf, keyIdOf, sourceLengthOf, sourceOf, entryOf, slotLength, slotCount, occupiedAt, keyIdAt, sourceAt, isHeld}
 use Rattle.slots.specs.Record.{undamaged}
 use Rattle.listing.specs.Listing.{namedLines, termLines, movedLines, listingOf, Listed, IsListed, listed}
 use Rattle.text.proofs.Decimals.{length-decimal}
@@ -117,7 +117,7 @@ unfolding listed
 listed-within t i out =
     either fits (ltb (length out) outputRoom) _ _ (λ _. omega arith)
     (λ room.
-    either fits (ltb i slotCount && occupied (slotOf t i)) _ _ (λ _. either fits (undamaged (slotOf t i)) _ _ (λ _. done room) (λ _. omega arith)) (λ _. omega arith))
+    either fits (isHeld t i) _ _ (λ _. either fits (undamaged (slotOf t i)) _ _ (λ _. done room) (λ _. omega arith)) (λ _. omega arith))
   where
     fits : Listed → Type 0
     fits z = z .answer .length ≤ length out

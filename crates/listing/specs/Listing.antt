@@ -2,7 +2,7 @@
 -- highest, marks are lower-case hex, two digits a byte, highest 12 digits and marks 64; the rest is decimal." 02, No. 2: "The listing gets `start=`
 -- in decimal after `size=`." No. 4: "The listing gets `edition=` after `suite=`."
 use mathlib.Core.Path.{_≡_}
-use mathlib.Core.Bool.{cond, _&&_}
+use mathlib.Core.Bool.{cond}
 use mathlib.Core.List.{List, [], _∷_, _++_}
 use Prim.Native.Nat.{ℕ}
 use lib.Dec.{ltb}
@@ -11,7 +11,7 @@ use Rattle.octets.specs.Octets.{bytesOf, put}
 use Rattle.text.specs.Text.{decimalLine, hexLine}
 use Rattle.answers.specs.Answers.{refused, outputRoom, outputSmall, damaged, noSlot}
 use Rattle.answers.specs.declared.Answer.{Answer}
-use Rattle.slots.specs.Table.{slotOf, occupied, flagOf, csOf, editionOf, keyIdOf, sourceOf, entryOf, slotCount}
+use Rattle.slots.specs.Table.{slotOf, flagOf, csOf, editionOf, keyIdOf, sourceOf, entryOf, isHeld}
 use Rattle.slots.specs.Record.{undamaged}
 
 -- the names of the lines: slot= flag= keyid= source= suite= edition= size= start= highest= marks= accepted= bytes=
@@ -91,7 +91,7 @@ pub record IsListed (l : Listed) (answer : Answer) (out : List ℕ) : Type 0 whe
 unfoldable pub listed : List ℕ → ℕ → List ℕ → Listed
 listed t i out =
     cond (ltb (length out) outputRoom) (record { answer = refused outputSmall; out = out })
-    (cond (ltb i slotCount && occupied (slotOf t i))
+    (cond (isHeld t i)
     (cond (undamaged (slotOf t i))
     (record { answer = record { reply = 0; length = length (listingOf i (slotOf t i)); slot = i; seqnum = 0 }; out = put out 0 (listingOf i (slotOf t i)) })
     (record { answer = refused damaged; out = out }))

@@ -1,7 +1,7 @@
 -- The lowest slot that passes a test: a turn and the ends of a loop that looks for it, and what the answer says.
 -- Assumes nothing.
 use mathlib.Core.Path.{_≡_, refl, sym, ap, _∙_}
-use mathlib.Core.Bool.{Bool, true, false, cond, not, _&&_, not-eq-not, true≢false}
+use mathlib.Core.Bool.{Bool, true, false, cond, not, _&&_, and-false, not-eq-not, true≢false}
 use mathlib.Core.List.{List}
 use Prim.Native.Nat.{ℕ, zero, suc, _+_, _-_, _≤_, _<_}
 use native.Mathlib.Decide.{decLt, ℕ-discrete}
@@ -15,18 +15,18 @@ use Rattle.lookup.specs.declared.Found.{Found}
 use Rattle.lookup.specs.declared.Found.the-variants.{At, Nothing}
 
 module _ (test : ℕ → Bool) where
-  -- a loop through the slots below an end: it finds one, goes on, and ends
-  pub here : (end i : ℕ) → i < end → test i ≡ true → firstFrom test (end - i) i ≡ At i
-  here end i h passes = let more : end - i ≡ suc (end - 1 - i) = omega arith in rw (more, passes)
+  -- a loop through the sixteen slots: it finds one, goes on, and ends
+  pub here : (i : ℕ) → i < slotCount → test i ≡ true → firstFrom test (slotCount - i) i ≡ At i
+  here i h passes = let more : slotCount - i ≡ suc (slotCount - 1 - i) = omega arith in rw (more, passes)
 
-  pub further : (end i : ℕ) → i < end → test i ≡ false → firstFrom test (end - i) i ≡ firstFrom test (end - (i + 1)) (i + 1)
-  further end i h fails =
-      let more : end - i ≡ suc (end - 1 - i) = omega arith in
-      let less : end - (i + 1) ≡ end - 1 - i = omega arith in
+  pub further : (i : ℕ) → i < slotCount → test i ≡ false → firstFrom test (slotCount - i) i ≡ firstFrom test (slotCount - (i + 1)) (i + 1)
+  further i h fails =
+      let more : slotCount - i ≡ suc (slotCount - 1 - i) = omega arith in
+      let less : slotCount - (i + 1) ≡ slotCount - 1 - i = omega arith in
       rw (more, fails, less, add-one)
 
-  pub nowhere : (end i : ℕ) → end ≤ i → firstFrom test (end - i) i ≡ Nothing
-  nowhere end i h = let none : end - i ≡ 0 = omega arith in rw none
+  pub nowhere : (i : ℕ) → slotCount ≤ i → firstFrom test (slotCount - i) i ≡ Nothing
+  nowhere i h = let none : slotCount - i ≡ 0 = omega arith in rw none
 
   -- what is found lies among those looked at, and passes
   pub found : (n i j : ℕ) → firstFrom test n i ≡ At j → (j < i + n) × (test j ≡ true) × (i ≤ j)
@@ -87,7 +87,7 @@ module _ (test : ℕ → Bool) where
       by j e l p (yes same) = e ∙ ap At same
       by j e l p (no other) = absurd (true≢false (sym p ∙ fail j (omega arith)))
 
--- all slots but one: those below it are looked at, then those above
+-- all slots but one: the lowest that passes, or the next where that is the one
 module _ (test : ℕ → Bool) (i : ℕ) where
   abbrev others : ℕ → Bool
   others j = not (eqb j i) && test j
@@ -95,29 +95,33 @@ module _ (test : ℕ → Bool) (i : ℕ) where
   other-is : (j : ℕ) → (j ≡ i → ⊥) → others j ≡ test j
   other-is j other = simp (ne-eqb j i other)
 
-  pub found-below : i < slotCount → (j : ℕ) → firstFrom test (i - 0) 0 ≡ At j → firstFrom others slotCount 0 ≡ At j
-  found-below small j e =
-      let there = found test (i - 0) 0 j e in
-      let below : j < i = omega (arith, there .0) in
-      lowest others j (omega arith) (other-is j (λ same. omega arith) ∙ there .1)
-      (λ k l. other-is k (λ same. omega arith) ∙ lower test (i - 0) 0 j e k (omega arith) l)
+  fails-too : (j : ℕ) → test j ≡ false → others j ≡ false
+  fails-too j fails = simp (fails, and-false)
 
-  pub found-above : i < slotCount → firstFrom test (i - 0) 0 ≡ Nothing → firstFrom others slotCount 0 ≡ firstFrom test (slotCount - (i + 1)) (i + 1)
-  found-above small e = by (firstFrom test (slotCount - (i + 1)) (i + 1)) refl
+  pub none-other : firstFrom test slotCount 0 ≡ Nothing → firstFrom others slotCount 0 ≡ Nothing
+  none-other e = all-fail others slotCount 0 (λ k a l. fails-too k (none test slotCount 0 k e a l))
+
+  pub other-first : (j : ℕ) → firstFrom test slotCount 0 ≡ At j → (j ≡ i → ⊥) → firstFrom others slotCount 0 ≡ At j
+  other-first j e other =
+      let there = found test slotCount 0 j e in
+      lowest others j (there .0) (other-is j other ∙ there .1) (λ k l. fails-too k (lower test slotCount 0 j e k (omega arith) l))
+
+  pub other-next : firstFrom test slotCount 0 ≡ At i → firstFrom others slotCount 0 ≡ firstFrom test (slotCount - (i + 1)) (i + 1)
+  other-next e = by (firstFrom test (slotCount - (i + 1)) (i + 1)) refl
     where
       -- below the slot none passes, and the slot does not count
       fails : (k : ℕ) → (i < k → test k ≡ false) → others k ≡ false
-      fails k above = at (ℕ-discrete k i) (decLt i k)
+      fails k above = at (decLt k i) (decLt i k)
         where
-          at : Dec (k ≡ i) → Dec (i < k) → others k ≡ false
-          at (yes same) d = simp (eq-eqb k i same)
-          at (no other) (yes h) = other-is k other ∙ above h
-          at (no other) (no h) = other-is k other ∙ none test (i - 0) 0 k e (omega arith) (omega arith)
+          at : Dec (k < i) → Dec (i < k) → others k ≡ false
+          at (yes l) d = fails-too k (lower test slotCount 0 i e k (omega arith) l)
+          at (no l) (yes h) = fails-too k (above h)
+          at (no l) (no h) = simp (eq-eqb k i (omega arith))
 
       by : (f : Found) → firstFrom test (slotCount - (i + 1)) (i + 1) ≡ f → firstFrom others slotCount 0 ≡ f
       by (At j) p =
           let there = found test (slotCount - (i + 1)) (i + 1) j p in
-          lowest others j (omega (arith, there .0)) (other-is j (λ same. omega (arith, there .2)) ∙ there .1)
+          lowest others j (omega (arith, there .0, there .2)) (other-is j (λ same. omega (arith, there .2)) ∙ there .1)
           (λ k l. fails k (λ h. lower test (slotCount - (i + 1)) (i + 1) j p k (omega arith) l))
       by Nothing p = all-fail others slotCount 0 (λ k a l. fails k (λ h. none test (slotCount - (i + 1)) (i + 1) k p (omega arith) (omega arith)))
 

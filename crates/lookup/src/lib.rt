@@ -1,6 +1,6 @@
-// Which slot of a table a message leads to, and which is free.
+// Which slot of a table a message leads to, which other one has its name, and which is free.
 ghost use mathlib.Core.Path.{_≡_};
-ghost use Prim.Native.Nat.{_-_, _<_, _≤_};
+ghost use Prim.Native.Nat.{_-_};
 ghost use lib.ListN.{length};
 ghost use Rattle.slots.specs.Table.{slotLength, tableLength, slotCount, slotOf};
 ghost use Rattle.lookup.specs.Lookup.{matches, firstFrom, leadsTo, leadsElsewhere, firstFree};
@@ -16,42 +16,22 @@ pub fn leads_to(table: &[u8], flag: u8, keyid: &[u8], source: &[u8]) -> Found
     requires { ⌜ length (now table) ≡ tableLength ⌝ }
     ensures { λ r. ⌜ r ≡ leadsTo (now (table .entry)) flag (now (keyid .entry)) (now (source .entry)) ⌝ }
 {
-    first_match(table, 0, layout::SLOTS, flag, keyid, source)
+    leads_from(table, 0, flag, keyid, source)
 }
 
-// The lowest of those that are not this slot.
+// The lowest other one than this slot.
 pub fn leads_elsewhere(table: &[u8], slot: usize, flag: u8, keyid: &[u8], source: &[u8]) -> Found
-    requires { ⌜ (length (now table) ≡ tableLength) × (slot < slotCount) ⌝ }
+    requires { ⌜ length (now table) ≡ tableLength ⌝ }
     ensures { λ r. ⌜ r ≡ leadsElsewhere (now (table .entry)) slot flag (now (keyid .entry)) (now (source .entry)) ⌝ }
 {
-    let below = first_match(table, 0, slot, flag, keyid, source);
-    let Found::Nothing = below else {
-        return below;
+    let first = leads_from(table, 0, flag, keyid, source);
+    let Found::At(found) = first else {
+        return Found::Nothing;
     };
-    first_match(table, slot + 1, layout::SLOTS, flag, keyid, source)
-}
-
-// The lowest of those from `from` on and below `end`.
-fn first_match(
-    table: &[u8],
-    from: usize,
-    end: usize,
-    flag: u8,
-    keyid: &[u8],
-    source: &[u8],
-) -> Found
-    requires { ⌜ (length (now table) ≡ tableLength) × (end ≤ slotCount) ⌝ }
-    ensures { λ r. ⌜ r ≡ firstFrom (λ i. matches flag (now (keyid .entry)) (now (source .entry)) (slotOf (now (table .entry)) i)) (end - from) from ⌝ }
-{
-    let mut i = from;
-    while i < end {
-        let at = layout::SLOT * i;
-        if agrees(&table[at..at + layout::SLOT], flag, keyid, source) {
-            return Found::At(i);
-        }
-        i += 1;
+    if found != slot {
+        return Found::At(found);
     }
-    Found::Nothing
+    leads_from(table, slot + 1, flag, keyid, source)
 }
 
 // The lowest free slot.
@@ -65,6 +45,23 @@ pub fn first_free(table: &[u8]) -> Found
             return Found::At(slot);
         }
         slot += 1;
+    }
+    Found::Nothing
+}
+
+// The lowest occupied slot from `from` on with that flag and KeyId and, for flag 1, that source.
+fn leads_from(table: &[u8], from: usize, flag: u8, keyid: &[u8], source: &[u8]) -> Found
+    requires { ⌜ length (now table) ≡ tableLength ⌝ }
+    ensures { λ r. ⌜ r ≡ firstFrom (λ i. matches flag (now (keyid .entry)) (now (source .entry)) (slotOf (now (table .entry)) i)) (slotCount - from) from ⌝ }
+{
+    let mut i = from;
+    while i < layout::SLOTS {
+        let at = layout::SLOT * i;
+        let end = at + layout::SLOT;
+        if agrees(&table[at..end], flag, keyid, source) {
+            return Found::At(i);
+        }
+        i += 1;
     }
     Found::Nothing
 }

@@ -1,6 +1,6 @@
 -- How a history begins: with an install or a change that is answered 0, and with whatever stands undamaged in a slot to which it leads itself.
 -- Assumes nothing.
-use mathlib.Core.Path.{_≡_, refl, ap, subst, _∙_}
+use mathlib.Core.Path.{_≡_, refl, sym, ap, subst, _∙_}
 use mathlib.Core.Bool.{true, false}
 use mathlib.Core.List.{List}
 use mathlib.Core.Logic.{_⊎_, inl, inr}
@@ -25,10 +25,10 @@ use Rattle.lookup.specs.declared.Found.the-variants.{At}
 use Rattle.lookup.proofs.Firsts.{lowest, leads-nowhere, elsewhere-nowhere, free-small}
 use Rattle.entries.specs.Change.{changed}
 use Rattle.entries.specs.Fresh.{freshSlot}
-use Rattle.entries.specs.Install.{doneAt, installed}
+use Rattle.entries.specs.Install.{Left, doneAt, installed}
 use Rattle.entries.proofs.Fresh.{length-fresh, fresh-entry, fresh-keydata, fresh-matches, fresh-undamaged}
 use Rattle.entries.proofs.Installs.{Fair}
-use Rattle.entries.proofs.Outcomes.{Refuses, Enters, Changes, install-outcome, change-outcome}
+use Rattle.entries.proofs.Outcomes.{Refuses, Enters, install-outcome, change-done}
 use Rattle.promises.specs.Calls.{install, change, after}
 use Rattle.promises.specs.Counted.{fresh, standing}
 use Rattle.promises.specs.History.{Begins}
@@ -72,14 +72,11 @@ module _ (t : List ℕ) (long : length t ≡ tableLength) (k : KeyData) (f : Fra
 
   -- a change answered 0
   pub change-begins : (i : ℕ) → changed t i k f .answer ≡ doneAt i → Begins (fresh k f) i (after t (change i k f))
-  change-begins i done = by (change-outcome t i k f)
-    where
-      by : Refuses t (changed t i k f) ⊎ Changes t i k f → Begins (fresh k f) i (changed t i k f .table)
-      by (inl r) = absurd (omega (arith, r .some, ap (λ (a : Answer). a .reply) (rw (r .is) at done)))
-      by (inr c) =
-          let small = c .small in
-          rw (c .is)
-          (fresh-begins (c .fair) i small (λ j l. elsewhere-nowhere t j i (k .flag) (k .keyId) (k .source) (c .alone) (omega arith) (λ same. omega arith)))
+  change-begins i done =
+      let c = change-done t i k f (ap (λ (a : Answer). a .reply) done) in
+      let small = c .small in
+      subst (Begins (fresh k f) i) (sym (ap (λ (l : Left). l .table) (c .is)))
+      (fresh-begins (c .fair) i small (λ j l. elsewhere-nowhere t j i (k .flag) (k .keyId) (k .source) (c .alone) (omega arith) (λ same. omega arith)))
 
 -- what stands undamaged in a slot to which its key data leads
 pub slot-begins : (t : List ℕ) → length t ≡ tableLength → (i : ℕ)

@@ -1,10 +1,10 @@
 -- Changing an entry (02, No. 7). A change is a removal and an install without the gap. Done, it begins a history; refused, it leaves the table and so every
--- history as it was. With a start above what was counted before, nothing of that is handed out again; with start 0 and the same key data all of it is.
+-- history as it was. With a start above what was handed out before, nothing of that is handed out again. With the same key data and start 0 each message of it
+-- is, right after the change; and with the same frame the same calls hand out all of it.
 -- Assumes nothing.
 use mathlib.Core.Path.{_≡_, sym, ap, subst, _∙_}
 use mathlib.Core.Bool.{Bool, true, false, false≢true, cond, _&&_}
-use mathlib.Core.List.{List, [], _∷_}
-use mathlib.Core.Logic.{_⊎_, inl, inr}
+use mathlib.Core.List.{List, [], _∷_, _++_}
 use Prim.Native.Nat.{ℕ, _≤_, _<_}
 use native.Mathlib.Omega.{arith}
 use borrow.Author.Tests.{le-ltb, ne-eqb}
@@ -27,15 +27,17 @@ use Rattle.slots.specs.Table.{slotOf, windowOf, tableLength}
 use Rattle.entries.specs.Change.{changed}
 use Rattle.entries.specs.Install.{Left, doneAt}
 use Rattle.entries.proofs.AsTwo.{change-is-two}
-use Rattle.entries.proofs.Outcomes.{Refuses, Changes, change-outcome}
+use Rattle.entries.proofs.Installs.{Fair}
+use Rattle.entries.proofs.Outcomes.{change-done}
 use Rattle.gateway.specs.Receive.{Received}
-use Rattle.promises.specs.Calls.{Call, arrival, install, remove, change, load, OfBytes, unwritten, called, after, run, Allowed, Trace, lastOf}
+use Rattle.promises.specs.Calls.{Call, arrival, install, remove, change, load, OfBytes, AllOfBytes, unwritten, called, after, run, Allowed, Trace, lastOf}
 use Rattle.promises.specs.Counted.{Beginning, fresh, Message, numbersOf, isIn, isBelow, isUsed, isOf, Told, apart, new, tested, toldOf, told, toldBy, counted, isNew}
 use Rattle.promises.specs.History.{Begins, one, handed, handedBy, Unended, GoesOn, ends, countedOf, NotAgain, Accounts}
 use Rattle.promises.proofs.Beginnings.{change-begins}
 use Rattle.promises.proofs.Counting.{counted-told}
 use Rattle.promises.proofs.History.{history, history-traced}
 use Rattle.promises.proofs.Refusals.{change-keeps}
+use Rattle.promises.proofs.Runs.{run-long, run-append}
 use Rattle.promises.proofs.Starts.{start-above, start-above-highest}
 use Rattle.promises.proofs.Traces.{allowed-called}
 
@@ -71,6 +73,10 @@ module _ (t : List ℕ) (long : length t ≡ tableLength) (i : ℕ) (k : KeyData
 
   -- ---- done
 
+  -- with the slot, as install answers
+  pub change-answers : changed t i k f .answer .reply ≡ 0 → changed t i k f .answer ≡ doneAt i
+  change-answers done = ap (λ (l : Left). l .answer) (change-done t i k f done .is)
+
   -- a change that is answered 0 begins a history: after any further calls the slot accounts for them,
   pub history-changed : changed t i k f .answer ≡ doneAt i → (ds : List Call) → GoesOn i (after t (change i k f)) ds
       → Accounts (fresh k f) i (run t (change i k f ∷ ds)) (toldBy (fresh k f) ds)
@@ -96,7 +102,22 @@ module _ (t : List ℕ) (long : length t ≡ tableLength) (i : ℕ) (k : KeyData
         → windowOf (slotOf (lastOf u rs) j) .highest < f .start → NotAgain (handedBy j [] cs rs) (handedBy i [] ds qs)
     changed-highest = start-above-highest (changed-begins r (made .0) done) ds qs (made .1) going
 
+-- The same for a change anywhere in a sequence of calls on a table.
+pub changed-within : (t : List ℕ) → length t ≡ tableLength → (before : List Call) → AllOfBytes before
+    → (i : ℕ) (k : KeyData) (f : Frame) → Bytes (k .keyId) → changed (run t before) i k f .answer ≡ doneAt i
+    → (ds : List Call) → GoesOn i (after (run t before) (change i k f)) ds
+    → Accounts (fresh k f) i (run t (before ++ change i k f ∷ ds)) (toldBy (fresh k f) ds)
+changed-within t long before all i k f bytes done ds goes =
+    rw (run-append t before (change i k f ∷ ds)) (history-changed (run t before) (run-long t long before all) i k f bytes done ds goes)
+
 -- ---- the trap
+
+-- Calls that were made since an entry stood fresh, by an install or a change, hand out the same once more after a change to the same key data and frame.
+pub all-again : {k : KeyData} {f : Frame} {i : ℕ} {t : List ℕ} → Begins (fresh k f) i t → (cs : List Call) (rs : List Received) → Trace t cs rs → Unended i cs rs
+    → (u : List ℕ) → length u ≡ tableLength → Bytes (k .keyId) → (j : ℕ) (q : Received) (qs : List Received) → Trace u (change j k f ∷ cs) (q ∷ qs) → q .answer ≡ doneAt j
+    → Unended j cs qs → handedBy i [] cs rs ≡ handedBy j [] cs qs
+all-again {k} {f} begins cs rs trace unended u long bytes j q qs again done going =
+    history-traced begins cs rs trace unended .1 ∙ sym (changed-traced u long j k f bytes q cs qs again done going .1)
 
 -- a message that was counted once is counted by a fresh entry with the same key data and start 0
 counted-anew : (b : Beginning) (past : List Told) (f : Frame) → f .start ≡ 0 → 1 ≤ f .size → (c : Call) (x : Message) → told b past c ≡ new x
@@ -136,11 +157,10 @@ pub passes-again : {b : Beginning} {i : ℕ} {t : List ℕ} → Begins b i t →
     → (j : ℕ) → changed u j (b .keys) f .answer ≡ doneAt j → handed j (after u (change j (b .keys) f)) c ≡ one x
 passes-again {b} begins cs goes c of-bytes x gave u long bytes f start j done =
     history-changed u long j (b .keys) f bytes done [] tt .exactly c of-bytes
-    ∙ ap countedOf (counted-anew b (toldBy b cs) f start (sized (change-outcome u j (b .keys) f)) c x is)
+    ∙ ap countedOf (counted-anew b (toldBy b cs) f start (frame-facts f (fair .framed) .sized) c x is)
   where
     is : told b (toldBy b cs) c ≡ new x
     is = counted-told (told b (toldBy b cs) c) x (sym (history begins cs goes .exactly c of-bytes) ∙ gave)
 
-    sized : Refuses u (changed u j (b .keys) f) ⊎ Changes u j (b .keys) f → 1 ≤ f .size
-    sized (inl r) = absurd (omega (arith, r .some, ap (λ (a : Answer). a .reply) (rw (r .is) at done)))
-    sized (inr n) = frame-facts f (n .fair .framed) .sized
+    fair : Fair (b .keys) f
+    fair = change-done u j (b .keys) f (ap (λ (a : Answer). a .reply) done) .fair

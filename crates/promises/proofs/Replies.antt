@@ -9,11 +9,11 @@ use native.Mathlib.Omega.{arith}
 use borrow.Author.Tests.{eqb-true, ne-eqb, not-true}
 use lib.Dec.{eqb, ltb}
 use lib.ListN.{length, getD}
-use Rattle.window.specs.Window.{floorOf, marked, judge, soundFrame}
+use Rattle.window.specs.Window.{floorOf, marked, judge}
 use Rattle.window.specs.declared.Frame.{Frame}
 use Rattle.octets.specs.Octets.{put}
 use Rattle.answers.specs.Answers.{refused, outputRoom}
-use Rattle.format.specs.KeyData.{known, soundOf, KeyData}
+use Rattle.format.specs.KeyData.{known, KeyData}
 use Rattle.format.specs.Suite.{suiteOf, numberOf, icvLengthOf}
 use Rattle.format.specs.Header.{payloadLength, csIn, seqNumIn, readOf}
 use Rattle.message.specs.Sealing.{right}
@@ -26,13 +26,13 @@ use Rattle.format.specs.declared.suite.Numbered.the-variants.{Known, Unknown}
 use Rattle.listing.specs.Listing.{Listed, listed, listingOf}
 use Rattle.entries.specs.Change.{changed}
 use Rattle.entries.specs.Fresh.{freshSlot}
-use Rattle.entries.specs.Install.{Left, installed, removed, unlessTwin, placed}
+use Rattle.entries.specs.Install.{Left, installed, removed, unlessTwin, placed, isFair}
 use Rattle.form.specs.Form.{Listing, listingIn}
 use Rattle.loading.specs.Load.{takenUp, takenUpFrom, loaded}
 use Rattle.gateway.specs.Receive.{Received, received, parsed, led, arrived, judged, checked, unsealed, handedOut, kept}
 use Rattle.lookup.specs.Lookup.{leadsTo, leadsElsewhere, firstFree}
 use Rattle.slots.specs.Record.{undamaged}
-use Rattle.slots.specs.Table.{slotOf, occupied, csOf, windowOf, slotCount, keyDataOf}
+use Rattle.slots.specs.Table.{slotOf, csOf, windowOf, keyDataOf, isHeld}
 use Rattle.lookup.specs.declared.Found.{Found}
 use Rattle.lookup.specs.declared.Found.the-variants.{At, Nothing}
 use Rattle.numbers.proofs.Tests.{and-left, and-right, neither-left, neither-right}
@@ -107,7 +107,7 @@ exactly rs e d = record {
 pub remove-reply : (t : List ℕ) (i : ℕ) → removed t i .answer .reply ≡ firstOf (removeReplies t i)
 unfolding removed removeReplies
 remove-reply t i =
-    let b = ltb i slotCount && occupied (slotOf t i) in
+    let b = isHeld t i in
     pushed (λ (l : Left). l .answer .reply) b _ _ ∙ sym (flipped b 16 0)
 
 module _ (t : List ℕ) where
@@ -123,7 +123,7 @@ pub install-reply : (t : List ℕ) (k : KeyData) (f : Frame)
     → installed t k f .answer .reply ≡ firstOf (installReplies t k f)
 unfolding installed installReplies
 install-reply t k f =
-    let b = soundOf k && soundFrame f in
+    let b = isFair k f in
     let found = leadsTo t (k .flag) (k .keyId) (k .source) in
     let in-free = placed t (freshSlot k f) (firstFree t) in
     pushed (λ (l : Left). l .answer .reply) b _ _
@@ -131,7 +131,7 @@ install-reply t k f =
 
 pub change-reply : (t : List ℕ) (i : ℕ) (k : KeyData) (f : Frame) → changed t i k f .answer .reply ≡ firstOf (changeReplies t i k f)
 unfolding changed changeReplies
-change-reply t i k f = by (ltb i slotCount && occupied (slotOf t i)) (soundOf k && soundFrame f) (leadsElsewhere t i (k .flag) (k .keyId) (k .source))
+change-reply t i k f = by (isHeld t i) (isFair k f) (leadsElsewhere t i (k .flag) (k .keyId) (k .source))
   where
     refusal : ℕ → Left
     refusal n = record { answer = refused n; table = t }
@@ -206,7 +206,7 @@ module _ (t m source out : List ℕ) where
 
 pub listing-reply : (t : List ℕ) (i : ℕ) (out : List ℕ) → listed t i out .answer .reply ≡ firstOf (listingReplies t i out)
 unfolding listed listingReplies
-listing-reply t i out = by (ltb (length out) outputRoom) (ltb i slotCount && occupied (slotOf t i)) (undamaged (slotOf t i))
+listing-reply t i out = by (ltb (length out) outputRoom) (isHeld t i) (undamaged (slotOf t i))
   where
     refusal : ℕ → Listed
     refusal n = record { answer = refused n; out = out }

@@ -7,6 +7,7 @@ use mathlib.Core.List.{List, [], _∷_}
 use mathlib.Core.Logic.{_⊎_, inl, inr}
 use Prim.Native.Nat.{ℕ, _≤_}
 use native.Mathlib.Nat.{zero-add}
+use native.Mathlib.Decide.{ℕ-discrete}
 use native.Mathlib.Omega.{arith}
 use borrow.Author.Tests.{eqb-true, eq-eqb, ne-eqb, ltb-false}
 use lib.Dec.{ltb}
@@ -32,11 +33,12 @@ use Rattle.slots.proofs.Slots.{slot-length}
 use Rattle.lookup.specs.Lookup.{matches, leadsTo, firstFree}
 use Rattle.lookup.specs.declared.Found.the-variants.{At, Nothing}
 use Rattle.lookup.proofs.Firsts.{free-small}
+use Rattle.entries.specs.Change.{changed}
 use Rattle.entries.specs.Fresh.{freshSlot}
 use Rattle.entries.specs.Install.{Left, doneAt, placed, installed, removed}
 use Rattle.entries.proofs.Fresh.{length-fresh}
-use Rattle.entries.proofs.Installs.{installs-alone}
-use Rattle.entries.proofs.Outcomes.{Refuses, Enters, Frees, install-outcome, remove-outcome}
+use Rattle.entries.proofs.Installs.{is-fair, installs-alone}
+use Rattle.entries.proofs.Outcomes.{Refuses, Enters, Frees, Changes, install-outcome, remove-outcome, change-outcome}
 use Rattle.entries.proofs.Removing.{removes, is-held}
 use Rattle.listing.specs.Listing.{listingOf, listed}
 use Rattle.listing.proofs.Listed.{lists}
@@ -163,7 +165,7 @@ module _ {b : Beginning} {i : ℕ} where
   swapped : {t u : List ℕ} {past : List Told} → InStep b i t u past → InStep b i u t past
   swapped both = record { first = both .second; second = both .first; entries = sym (both .entries) }
 
-  -- what ends the history in one ends it in the other, if it is no change: a removal or a load that is done at the slot
+  -- what ends the history in one ends it in the other, if it is no change to sound data: a removal or a load that is done at the slot
   removes-too : {t u : List ℕ} {past : List Told} → InStep b i t u past → (j : ℕ) → isDone i (removed t j .answer) ≡ true → isDone i (removed u j .answer) ≡ true
   removes-too {t} {u} both j done = by (remove-outcome t j) (remove-outcome u j)
     where
@@ -198,7 +200,12 @@ module _ {b : Beginning} {i : ℕ} where
   ends-too both (arrival m source out) other goes = refl
   ends-too both (install k f) other goes = refl
   ends-too both (remove j) other goes = not-eq-not .0 (λ e. true≢false (sym (removes-too (swapped both) j e) ∙ goes))
-  ends-too {u = u} both (change j k f) other goes = spares i u (change j k f) other
+  ends-too {u = u} both (change j k f) other goes = by (ℕ-discrete j i) (change-outcome u j k f)
+    where
+      by : Dec (j ≡ i) → Refuses u (changed u j k f) ⊎ Changes u j k f → isDone i (changed u j k f .answer) ≡ false
+      by (no differs) o = spares i u (change j k f) differs
+      by (yes same) (inl r) = rw (r .is, ne-eqb (r .reply) 0 (λ z. omega (arith, r .some)))
+      by (yes same) (inr n) = absurd (true≢false (sym (is-fair (n .fair)) ∙ other same))
   ends-too both (load text) other goes = not-eq-not .0 (λ e. true≢false (sym (loads-too (swapped both) text e) ∙ goes))
 
   -- a call that ends it in neither leaves both in step
@@ -311,24 +318,35 @@ module _ {b : Beginning} {i : ℕ} {t : List ℕ} (begins : Begins b i t) (keyid
 
     -- and after any further calls that end the history in neither, both do the same for the entry and have handed out the same there;
     pub restarted-both : (es : List Call) → GoesOn i ran es → GoesOn i (after anew (load text)) es → Resumed (b .keys) i ran (after anew (load text)) es
-    restarted-both es further again = record {
-      goes = again;
-      same = alike (in-step started es further again);
-      hands = hands-on (started .first) es further ∙ sym (hands-on (started .second) es again);
+    restarted-both es further too = record {
+      goes = too;
+      same = alike (in-step started es further too);
+      hands = hands-on (started .first) es further ∙ sym (hands-on (started .second) es too);
     }
 
-    -- so after any that ask for no change of the slot and do not end the history of the gateway that never stopped.
+    -- so after any that ask for no change of the slot to sound data and do not end the history of the gateway that never stopped.
     pub restarted : (es : List Call) → Unchanged i es → GoesOn i ran es → Resumed (b .keys) i ran (after anew (load text)) es
     restarted es other further = restarted-both es further (goes-too started es other further)
 
-    -- The same of calls that were made.
-    pub restarted-traced : (es : List Call) (rs qs : List Received) → Unchanged i es → Trace ran es rs → Unended i es rs → Trace (after anew (load text)) es qs
-        → SameFor (b .keys) i (lastOf ran rs) (lastOf (after anew (load text)) qs) × (handedBy i [] es rs ≡ handedBy i [] es qs)
-    restarted-traced es rs qs other p unended q =
-        let r = restarted es other (subst (Unended i es) (trace-results ran es rs p) unended) in (
-          rw (trace-run ran es rs p, trace-run (after anew (load text)) es qs q) (r .same),
-          ap (handedBy i [] es) (trace-results ran es rs p) ∙ r .hands ∙ sym (ap (handedBy i [] es) (trace-results (after anew (load text)) es qs q)),
-        )
+    -- The same of calls that were made, of which what came back says whether they ended it.
+    module _ (es : List Call) (rs qs : List Received) (p : Trace ran es rs) (unended : Unended i es rs) (q : Trace (after anew (load text)) es qs) where
+      further : GoesOn i ran es
+      further = subst (Unended i es) (trace-results ran es rs p) unended
+
+      made : Resumed (b .keys) i ran (after anew (load text)) es
+          → SameFor (b .keys) i (lastOf ran rs) (lastOf (after anew (load text)) qs) × (handedBy i [] es rs ≡ handedBy i [] es qs)
+      made r = (
+        rw (trace-run ran es rs p, trace-run (after anew (load text)) es qs q) (r .same),
+        ap (handedBy i [] es) (trace-results ran es rs p) ∙ r .hands ∙ sym (ap (handedBy i [] es) (trace-results (after anew (load text)) es qs q)),
+      )
+
+      pub both-traced : Unended i es qs
+          → SameFor (b .keys) i (lastOf ran rs) (lastOf (after anew (load text)) qs) × (handedBy i [] es rs ≡ handedBy i [] es qs)
+      both-traced too = made (restarted-both es further (subst (Unended i es) (trace-results (after anew (load text)) es qs q) too))
+
+      pub restarted-traced : Unchanged i es
+          → SameFor (b .keys) i (lastOf ran rs) (lastOf (after anew (load text)) qs) × (handedBy i [] es rs ≡ handedBy i [] es qs)
+      restarted-traced other = made (restarted es other further)
 
 -- ---- for operators
 
@@ -371,8 +389,8 @@ module _ (t u : List ℕ) (tl : length t ≡ tableLength) (ul : length u ≡ tab
   is-print : listingOf i (slotOf lasting i) ≡ print
   is-print = sym (rw (prints begins keyid source cs goes out room) (taken-back out (listingOf i (slotOf lasting i))))
 
-  -- The load is answered with the slot. Then, after any further calls that ask for no change of the slot and do not end the entry's history in the gateway
-  -- that never stopped, its replies, payloads and totals are the same in both.
+  -- The load is answered with the slot. Then, after any further calls that ask for no change of the slot to sound data and do not end the entry's history in
+  -- the gateway that never stopped, its replies, payloads and totals are the same in both.
   pub restart : (loaded (run u (install k f ∷ ds)) print .answer ≡ doneAt i) × ((es : List Call) → Unchanged i es → GoesOn i lasting es → Resumed k i lasting resumed es)
   restart =
       subst (λ (x : List ℕ). (loaded (run u (install k f ∷ ds)) x .answer ≡ doneAt i) × ((es : List Call) → Unchanged i es → GoesOn i lasting es → Resumed k i lasting (after (run u (install k f ∷ ds)) (load x)) es)) is-print

@@ -239,7 +239,7 @@ module _ {b : Beginning} {i : ℕ} {t : List ℕ} {past : List Told} (now : Stan
 
   -- ---- any other call
 
-  -- a call that is done at a slot, and would end the history there, was done at another
+  -- a call that would have ended the history if it was done at slot i, and did not, was done at another
   elsewhere-done : (c : Call) → ends i c (doneAt i) ≡ true → (j : ℕ) → ends i c (doneAt j) ≡ false → j ≡ i → ⊥
   elsewhere-done c over j goes same = true≢false (sym over ∙ subst (λ (x : ℕ). ends i c (doneAt x) ≡ false) same goes)
 

@@ -19,6 +19,7 @@ use Rattle.slots.specs.Table.{slotOf, windowOf, entryOf, keyDataOf, tableLength
 use Rattle.slots.specs.Record.{undamaged}
 use Rattle.lookup.specs.Lookup.{leadsTo}
 use Rattle.lookup.specs.declared.Found.the-variants.{At}
+use Rattle.entries.specs.Install.{isFair}
 use Rattle.form.specs.Form.{Listing, listingIn}
 use Rattle.gateway.specs.Receive.{Received}
 use Rattle.promises.specs.Calls.{Call, arrival, install, remove, change, load, OfBytes, called, run, results, isDone}
@@ -159,20 +160,20 @@ pub record SameFor (k : KeyData) (i : ℕ) (t u : List ℕ) : Type 0 where
   pub answers : (message source out : List ℕ) → Bytes message → (h : Header) → readOf message ≡ Read h → isOf k h message source ≡ true
       → let a = called t (arrival message source out) in let b = called u (arrival message source out) in (a .answer ≡ b .answer) × (a .out ≡ b .out)
 
--- No change of slot i is asked for: whether one is refused hangs on the names in the other slots, which two tables need not share.
+-- No change of slot i to sound data is asked for: whether such a one is refused hangs on the names in the other slots, which two tables need not share.
 abbrev pub NoChangeOf : ℕ → Call → Type 0
 NoChangeOf i (arrival message source out) = Unit {0}
 NoChangeOf i (install k f) = Unit {0}
 NoChangeOf i (remove j) = Unit {0}
-NoChangeOf i (change j k f) = j ≡ i → ⊥
+NoChangeOf i (change j k f) = j ≡ i → isFair k f ≡ false
 NoChangeOf i (load text) = Unit {0}
 
 abbrev pub Unchanged : ℕ → List Call → Type 0
 Unchanged i [] = Unit {0}
 Unchanged i (c ∷ cs) = NoChangeOf i c × Unchanged i cs
 
--- A gateway with table u resumes what one with table t would have gone on with: further calls that do not end the entry's history there do not end it here,
--- after them both do the same for the entry, and what they handed out at it is the same.
+-- A gateway with table u resumes what one with table t would have gone on with: the calls es do not end the entry's history here, after them both do the same
+-- for the entry, and what they handed out at it is the same.
 pub record Resumed (k : KeyData) (i : ℕ) (t u : List ℕ) (es : List Call) : Type 0 where
   pub goes : GoesOn i u es
   pub same : SameFor k i (run t es) (run u es)

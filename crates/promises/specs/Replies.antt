@@ -8,10 +8,10 @@ use lib.Dec.{eqb, ltb}
 use lib.ListN.{length}
 use Rattle.answers.specs.Answers.{outputRoom}
 use Rattle.octets.specs.Octets.{part}
-use Rattle.window.specs.Window.{floorOf, marked, soundFrame}
+use Rattle.window.specs.Window.{floorOf, marked}
 use Rattle.window.specs.declared.Frame.{Frame}
 use Rattle.format.specs.KeyId.{lengthOf}
-use Rattle.format.specs.KeyData.{known, soundOf, KeyData}
+use Rattle.format.specs.KeyData.{known, KeyData}
 use Rattle.format.specs.Suite.{suiteOf, icvLengthOf}
 use Rattle.format.specs.Header.{flagIn, versionIn, csIn, keyIdIn, seqNumIn, readOf, leastMessage, greatestMessage}
 use Rattle.message.specs.Sealing.{right}
@@ -20,11 +20,12 @@ use Rattle.format.specs.declared.header.Parsed.the-variants.{Read, BadLength, B
 use Rattle.format.specs.declared.suite.Suite.{Suite}
 use Rattle.format.specs.declared.suite.Numbered.{Numbered}
 use Rattle.format.specs.declared.suite.Numbered.the-variants.{Known, Unknown}
-use Rattle.slots.specs.Table.{slotOf, occupied, csOf, windowOf, slotCount, keyDataOf}
+use Rattle.slots.specs.Table.{slotOf, occupied, csOf, windowOf, slotCount, keyDataOf, isHeld}
 use Rattle.lookup.specs.Lookup.{leadsTo, leadsElsewhere, firstFree}
 use Rattle.slots.specs.Record.{undamaged}
 use Rattle.lookup.specs.declared.Found.{Found}
 use Rattle.lookup.specs.declared.Found.the-variants.{At, Nothing}
+use Rattle.entries.specs.Install.{isFair}
 use Rattle.form.specs.Form.{Listing, listingIn}
 use Rattle.loading.specs.Load.{stands, listedEntry, loadable}
 use Rattle.capture.specs.Capture.{recordLength, magicOf, isBad, capturedAt, originalAt, isCut, isUnreadable}
@@ -147,7 +148,7 @@ unfoldable pub installReplies : List ℕ → KeyData → Frame → List Reply
 installReplies t k f =
     -- key data unsound, Size with it; "a larger start gives 13 at install" (02, No. 2), and so does "another edition, or 1 with a suite other than 1"
     -- (No. 4)
-    reply 13 (not (soundOf k && soundFrame f))
+    reply 13 (not (isFair k f))
     -- an occupied slot has the same flag and KeyId and, for flag 1, source
     ∷ reply 14 (not (isNothing (leadsTo t (k .flag) (k .keyId) (k .source))))
     -- no free slot
@@ -157,15 +158,15 @@ installReplies t k f =
 unfoldable pub removeReplies : List ℕ → ℕ → List Reply
 removeReplies t i =
     -- slot over 15, or free
-    reply 16 (not (ltb i slotCount && occupied (slotOf t i)))
+    reply 16 (not (isHeld t i))
     ∷ []
 
 unfoldable pub changeReplies : List ℕ → ℕ → KeyData → Frame → List Reply
 changeReplies t i k f =
     -- slot over 15, or free
-    reply 16 (not (ltb i slotCount && occupied (slotOf t i)))
+    reply 16 (not (isHeld t i))
     -- key data unsound, Size and start with it
-    ∷ reply 13 (not (soundOf k && soundFrame f))
+    ∷ reply 13 (not (isFair k f))
     -- another occupied slot has the same flag and KeyId and, for flag 1, source
     ∷ reply 14 (not (isNothing (leadsElsewhere t i (k .flag) (k .keyId) (k .source))))
     ∷ []
@@ -177,7 +178,7 @@ listingReplies t i out =
     -- output buffer under 2,048 bytes
     reply 1 (ltb (length out) outputRoom)
     -- slot over 15, or free
-    ∷ reply 16 (not (ltb i slotCount && occupied (slotOf t i)))
+    ∷ reply 16 (not (isHeld t i))
     -- record damaged
     ∷ reply 7 (not (undamaged (slotOf t i)))
     ∷ []

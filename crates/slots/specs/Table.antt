@@ -1,9 +1,9 @@
 -- The table that a caller lends: 16 slots of 288 bytes. Where each part of an entry stands in its slot is said here and nowhere else in the
 -- definitions. Numbers are big-endian. A table of zeros is empty.
-use mathlib.Core.Bool.{Bool, not}
+use mathlib.Core.Bool.{Bool, not, _&&_}
 use mathlib.Core.List.{List, _++_}
 use Prim.Native.Nat.{ℕ, _+_, _*_}
-use lib.Dec.{eqb}
+use lib.Dec.{eqb, ltb}
 use lib.ListN.{getD, drop, replicate}
 use Rattle.octets.specs.Octets.{bigEndian, bytesOf, part, put}
 use Rattle.format.specs.KeyData.{KeyData}
@@ -91,6 +91,10 @@ slotOf t i = part (slotLength * i) slotLength t
 -- a slot whose first byte is 0 is free
 abbrev pub occupied : List ℕ → Bool
 occupied s = not (eqb (getD s occupiedAt 0) 0)
+
+-- whether slot i of a table is there and occupied: else "16: slot over 15, or free"
+abbrev pub isHeld : List ℕ → ℕ → Bool
+isHeld t i = ltb i slotCount && occupied (slotOf t i)
 
 abbrev pub flagOf : List ℕ → ℕ
 flagOf s = getD s flagAt 0

@@ -29,16 +29,16 @@ returns : tie.Need-returns Inv-loop μ-loop
 returns c =
     let l = c .before .before .before .loop in
     let t = c .before .before .before .before .args .table .now in
-    sym (l .inv .1 ∙ here (free t) slotCount (l .slot) (omega arith) (ap not (slot-free t (l .slot) (c .if1 .taken))))
+    sym (l .inv .1 ∙ here (free t) (l .slot) (omega arith) (ap not (slot-free t (l .slot) (c .if1 .taken))))
 
 loop-again : tie.Need-loop-again Inv-loop μ-loop
 loop-again c =
     let l = c .before .before .before .loop in
     let t = c .before .before .before .before .args .table .now in
-    (search needs, l .inv .1 ∙ further (free t) slotCount (l .slot) (omega arith) (ap not (slot-held t (l .slot) (c .if1 .left))))
+    (search needs, l .inv .1 ∙ further (free t) (l .slot) (omega arith) (ap not (slot-held t (l .slot) (c .if1 .left))))
 
 returns-2 : tie.Need-returns-2 Inv-loop μ-loop
-returns-2 c = let l = c .before .loop in sym (l .inv .1 ∙ nowhere (free _) slotCount (l .slot) (omega arith))
+returns-2 c = let l = c .before .loop in sym (l .inv .1 ∙ nowhere (free _) (l .slot) (omega arith))
 
 pub first-free-spec : {M : Type 1} → statement M
 first-free-spec =

@@ -6,7 +6,7 @@ use Rattle.lookup.proofs.leads_to.Tie as tie
 
 returns : tie.Need-returns
 unfolding leadsTo
-returns c = c .first-match .ensures
+returns c = c .leads-from .ensures
 
 pub leads-to-spec : {M : Type 1} → statement M
 leads-to-spec = tie.close (tie.spec (λ c κs. search needs) returns)

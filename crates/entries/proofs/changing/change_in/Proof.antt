@@ -1,19 +1,18 @@
 -- `entries::changing::change_in` meets its contract, by the test that led to each answer. Assumes nothing.
 use mathlib.Core.Path.{_≡_, refl, sym, ap, _∙_}
-use mathlib.Core.Bool.{true, _&&_}
+use mathlib.Core.Bool.{true}
 use mathlib.Core.List.{List}
 use Prim.Native.Nat.{ℕ}
+use native.Mathlib.Omega.{arith}
 use borrow.Author.Needs.{needs}
 use borrow.Author.Tests.{not-true, not-false}
-use lib.Dec.{ltb}
-use Rattle.format.specs.KeyData.{KeyData, keyed, soundOf}
+use Rattle.format.specs.KeyData.{KeyData, keyed}
 use Rattle.format.proofs.Soundness.{sound-facts}
-use Rattle.window.specs.Window.{soundFrame}
 use Rattle.window.specs.declared.Frame.{Frame}
-use Rattle.slots.specs.Table.{slotOf, occupied, slotCount}
+use Rattle.slots.specs.Table.{isHeld}
 use Rattle.lookup.specs.declared.Found.the-variants.{At}
 use Rattle.entries.specs.Fresh.{freshSlot}
-use Rattle.entries.specs.Install.{placed, unlessTwin}
+use Rattle.entries.specs.Install.{placed, unlessTwin, isFair}
 use Rattle.entries.proofs.Bounds.{keyid-most}
 use Rattle.entries.proofs.Changes.{changes-not, changes-unfair, changes, changes-alone}
 use Rattle.entries.proofs.Installs.{is-left, fair-facts}
@@ -42,7 +41,7 @@ returns c =
     is-left (changes-not _ _ _ _ (sym (asked .held .ensures) ∙ not-true _ (c .before .if1 .taken))) (c .refuse .ensures) refl
 
 -- past the refusal 16
-there : (c : tie.Else1) → (ltb (slot (c .before)) slotCount && occupied (slotOf (table (c .before)) (slot (c .before)))) ≡ true
+there : (c : tie.Else1) → isHeld (table (c .before)) (slot (c .before)) ≡ true
 there c = sym (c .before .held .ensures) ∙ not-false _ (c .if1 .left)
 
 returns-2 : tie.Need-returns-2
@@ -54,11 +53,8 @@ returns-2 c =
 abbrev past : tie.Else2 → tie.Else1
 past c = c .before .before
 
-fair : (c : tie.Else2) → let b = past c .before in (soundOf (keys b) && soundFrame (frame b)) ≡ true
+fair : (c : tie.Else2) → let b = past c .before in isFair (keys b) (frame b) ≡ true
 fair c = sym (c .before .fair .ensures) ∙ not-false _ (c .if2 .left)
-
-leads-elsewhere-requires : tie.Need-leads-elsewhere-requires
-leads-elsewhere-requires c κs = (search needs, held-small _ _ (there (past (c .before))))
 
 returns-3 : tie.Need-returns-3
 returns-3 c =
@@ -77,7 +73,7 @@ write-entry-requires c κs =
     let keyid = b .before .before .before .before in
     let sound = sound-facts (keys b) (fair-facts (keys b) (frame b) (fair else) .sound) in (
       search needs,
-      held-small _ _ (there (past else)),
+      omega (arith, held-small (table b) (slot b) (there (past else))),
       keyid-most sound (keyid .shared-slice-known .given 0 .fits),
       sound .source-most,
       sound .key-length,
@@ -100,8 +96,7 @@ change-in-spec =
     returns
     (λ c κs. search needs) (λ c κs. search needs) (λ c. search needs)
     returns-2
-    leads-elsewhere-requires
-    (λ c. search needs) (λ c. search needs) (λ c κs. search needs) (λ c. search needs)
+    (λ c κs. search needs) (λ c. search needs) (λ c. search needs) (λ c κs. search needs) (λ c. search needs)
     returns-3
     write-entry-requires
     (λ c κs. search needs) (λ c. search needs)

@@ -1,19 +1,18 @@
 -- `entries::installing::remove_in` meets its contract, by the test that led to each answer. Assumes nothing.
 use mathlib.Core.Path.{_≡_, refl, sym, _∙_}
-use mathlib.Core.Bool.{true, _&&_}
+use mathlib.Core.Bool.{true}
 use Prim.Native.Nat.{_<_}
 use native.Mathlib.Omega.{arith}
 use borrow.Author.Needs.{needs}
 use borrow.Author.Tests.{not-true, not-false}
-use lib.Dec.{ltb}
-use Rattle.slots.specs.Table.{slotOf, occupied, slotCount}
+use Rattle.slots.specs.Table.{slotCount, isHeld}
 use Rattle.entries.proofs.Installs.{is-left}
 use Rattle.entries.proofs.Removing.{removes-not, removes, held-small}
 use Rattle.entries.proofs.installing.remove_in.Statement.{statement}
 use Rattle.entries.proofs.installing.remove_in.Tie as tie
 
 -- past the refusal the slot is there
-there : (c : tie.Else1) → let a = c .before .before .before .before .args in (ltb (a .slot) slotCount && occupied (slotOf (a .table .now) (a .slot))) ≡ true
+there : (c : tie.Else1) → let a = c .before .before .before .before .args in isHeld (a .table .now) (a .slot) ≡ true
 there c = sym (c .before .held .ensures) ∙ not-false _ (c .if1 .left)
 
 small : (c : tie.Else1) → c .before .before .before .before .args .slot < slotCount
