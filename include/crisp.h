@@ -115,7 +115,7 @@ enum {
     CRISP_WRONG_ICV = 11,       /* check value wrong; of all messages of a controller: its entry has another key or another edition */
     CRISP_NO_NUMBER = 12,       /* the sender has used number 2^48 - 1 */
     CRISP_UNSOUND = 13,         /* key data (its edition is part of it), window size or start unsound */
-    CRISP_TWIN = 14,            /* an occupied slot, of a change another one, has the same flag and KeyId and, for flag 1, source */
+    CRISP_TWIN = 14,            /* an occupied slot (for a change: another one) has the same flag and KeyId and, for flag 1, source */
     CRISP_FULL = 15,            /* no free slot */
     CRISP_NO_SLOT = 16,         /* slot over 15, or free */
     CRISP_BAD_CAPTURE = 17,     /* a capture's header is bad, or its size is not 24 to 65,536 bytes */
@@ -218,18 +218,20 @@ CRISP_CHECK(crisp_record_is_laid_out_as_in_the_library,
  * slot), in that order. Touches no other slot.
  *
  * edition is 2, and 1 for one of the older controllers that read LSB. A message does not tell it. Where an entry has the wrong one, every message of
- * its controller is refused with 11, as if the key were wrong: change the entry to the other edition (crisp_change). Only where the top and the
- * low 35 bits of its number are the same does a message pass, for both editions then make the same one: this is so of 8,192 of the 2^48 numbers,
- * 0 and CRISP_LAST among them. If one has passed, the key has a past, and its new entry a start, as follows.
+ * its controller is refused with 11, as if the key were wrong: change the entry to the other edition (crisp_change), with the start that it has. Only
+ * where the top and the low 35 bits of its number are the same does a message pass, for both editions then make the same one: this is so of 8,192 of
+ * the 2^48 numbers, 0 and CRISP_LAST among them. If one has passed, the key has a past, and the start is larger, as follows.
  *
  * start is for a key that has a past. For a key that is used for the first time it is 0. For a key that comes from another gateway, whose entry was
  * removed and is installed again, or that stays where its entry is changed, it is the larger of two numbers of the old entry: its start, and one more
  * than its highest number (`start=`, in decimal, and `highest=`, in hex, of a listing that was made after its last arrival). Then nothing that was
  * handed out there is handed out here.
- * Left at 0, on a replacement gateway or in the same one, the whole archive passes once more: each old message is genuine, its number is new to the
- * fresh entry, and it is booked a second time. A message below start that the old entry never took is refused too (9), so let the old one first take
- * what is under way. Where its highest number is not known, or is CRISP_LAST, take a new key. Where the entry comes into its old slot with its old
- * size and start, crisp_load does better with the same listing: the window comes along, and what is under way still passes. */
+ *
+ * Left at 0, on a replacement gateway or in the same one, the archive passes once more, in the order of its numbers all of it: each old message is
+ * genuine, its number is new to the fresh entry, and it is booked a second time. A message below start that the old entry never took is refused too
+ * (9), so let the old one first take what is under way. Where its highest number is not known, or is CRISP_LAST, take a new key. Where the entry comes
+ * into its old slot with its old size and start, crisp_load does better with the same listing: the window comes along, and what is under way still
+ * passes. */
 CRISP_CALL CRISP_READS(3, 4) CRISP_READS(5, 6) CRISP_READS(9, 10)
 struct crisp_answer crisp_install(uint8_t table[CRISP_AT_LEAST CRISP_TABLE], uint8_t flag, const uint8_t *keyid, size_t keyid_len,
                                   const uint8_t *source, size_t source_len, uint8_t suite, uint8_t edition, const uint8_t *key, size_t key_len,
@@ -255,8 +257,8 @@ struct crisp_answer crisp_remove(uint8_t table[CRISP_AT_LEAST CRISP_TABLE], size
  * The old entry's history ends, and a new one begins. With a new key start is 0: an old message fails its check (11), as a forged one does. The same
  * key has a past: list the entry first, after its last arrival, and hand in as start the larger of its start and one more than its highest number, as
  * is said at crisp_install. Then nothing that was counted before the change is handed out after it. Changed to the same key with start 0, for another
- * window say, the entry lets its whole archive pass once more: each old message is genuine, its number is new to the fresh entry, and it is booked a
- * second time.
+ * window say, the entry lets its archive pass once more, in the order of its numbers all of it: each old message is genuine, its number is new to the
+ * fresh entry, and it is booked a second time.
  *
  * The window does not come along. What is still under way is lost, with a start what lies below it (9) and with a new key what was made with the old
  * one (11): let it arrive first. The totals begin at 0, so save the old listing where they are to be answered for. And save the table, or a new
@@ -310,8 +312,8 @@ struct crisp_answer crisp_listing(const uint8_t table[CRISP_AT_LEAST CRISP_TABLE
  * A listing holds no key: first install the entry with its key data, size and start, into the slot that is listed. Installs take the lowest free slot,
  * so install in the slots' order, and where one in between was free, put an entry there that is removed afterwards. Whether the key is the old one
  * cannot be seen: with another one each message that is not refused with 9 or 10 is then refused with 11. Only an entry that has accepted nothing takes a
- * listing; where it took a wrong one, change it to its own key data, size and start, and load the right one. The entry's highest number, marks and byte
- * total of before are not looked at, so a record with accepted 0 that is damaged in these alone is mended. A listing by version 1 or 2 has no line
+ * listing; where it took a wrong one, change it to its own key data, size and start, and load the right one before anything arrives. The entry's highest
+ * number, marks and byte total of before are not looked at, so a record with accepted 0 that is damaged in these alone is mended. A listing by version 1 or 2 has no line
  * `edition=`, and one by version 1 no `start=`, so it is refused with 21: it loads once `edition=2` was put behind `suite=`, and `start=0` behind `size=`.
  *
  * An old text is as bad as an old table: each message that was accepted after it was made can pass once more. So list after the last arrival, save the
@@ -353,7 +355,7 @@ struct crisp_record crisp_capture_record(const uint8_t *file, size_t file_len, u
  *
  * crisp_forget clears CRISP_STACK bytes below its caller's frame, and the registers that a call need not keep. Call it from the function that
  * made the call, right after it. It is not proved; the tests find keys after crisp_receive and crisp_protect, none after crisp_load, nothing of an
- * entry's old key after crisp_change, and no key after any of these five once crisp_forget was called. */
+ * entry's old key after crisp_change, and no key after any of these four, nor after crisp_install, once crisp_forget was called. */
 #if defined(__GNUC__) && defined(__x86_64__)
 __attribute__((noinline, unused)) static void crisp_forget(void)
 {

@@ -97,11 +97,12 @@ static const char *const load_names[LOADS] = {"own", "older", "any", "any refuse
 static uint64_t by_load[LOADS];
 
 /* changes that were done: with no free slot; to the name that stood there, which a lookup leads to or, as its stored length is over its room, does not;
- * to another name; of a damaged record; past another slot that would have been a twin but for a stored length over its room; where a removal and an
- * install would have come back to the slot, and where they would have taken a lower one; and to the same data, into which the entry's listing was loaded */
-enum change { IN_FULL, SAME_NAME, BROKEN_NAME, OTHER_NAME, OF_DAMAGED, PAST_KEYID, PAST_SOURCE, SAME_BY_TWO, LOWER_BY_TWO, THEN_LOADED, CHANGES };
+ * to another name; of a damaged record; past another slot that would have been a twin but for a stored length over its room, or but for its first byte;
+ * where a removal and an install would have come back to the slot, and where they would have taken a lower one; and to the same data, into which the
+ * entry's listing was loaded */
+enum change { IN_FULL, SAME_NAME, BROKEN_NAME, OTHER_NAME, OF_DAMAGED, PAST_KEYID, PAST_SOURCE, PAST_FREE, SAME_BY_TWO, LOWER_BY_TWO, THEN_LOADED, CHANGES };
 static const char *const change_names[CHANGES] = {"full table", "same name", "broken name", "another name", "damaged", "past a long KeyId",
-                                                  "past a long source", "as by two calls", "as by two in a lower slot", "then loaded"};
+                                                  "past a long source", "past a free one", "as by two calls", "as by two in a lower slot", "then loaded"};
 static uint64_t by_change[CHANGES];
 
 /* changes that were refused: with 16; with 13 for one thing alone; with 14 by twins below alone or above alone, and so where the slot itself has the
@@ -281,7 +282,11 @@ static void count_done(const uint8_t *before, size_t slot, const struct crisp_se
     for (size_t i = 0; i < CRISP_SLOTS; i++) {
         const uint8_t *other = before + SLOT * i;
         occupied += other[0] != 0;
-        if (i == slot || !other[0] || other[FLAG] != s->flag || memcmp(other + KEYID, s->keyid, s->keyid_len)) continue;
+        if (i == slot || other[FLAG] != s->flag || memcmp(other + KEYID, s->keyid, s->keyid_len)) continue;
+        if (!other[0]) {
+            by_change[PAST_FREE] += other[KEYID_LEN] == s->keyid_len;
+            continue;
+        }
         if (other[KEYID_LEN] > CRISP_KEYID) by_change[PAST_KEYID]++;
         if (s->flag == 0 && other[KEYID_LEN] == s->keyid_len && other[SOURCE_LEN] > CRISP_SOURCE) by_change[PAST_SOURCE]++;
     }
@@ -1035,7 +1040,7 @@ static void make_twin(size_t slot)
     switch (below(6)) {
     case 0: put(at + KEYID_LEN, (uint8_t)(129 + below(127))); break;
     case 1: put(at + SOURCE_LEN, (uint8_t)(33 + below(223))); break;
-    case 2: put(at, (uint8_t)rnd()); break;
+    case 2: put(at, below(2) ? 0 : (uint8_t)rnd()); break;
     }
 }
 
