@@ -1,4 +1,5 @@
 pub mod Chains
+pub mod Determined
 pub mod Halves
 pub mod Stretches
 pub mod Texts

@@ -55,7 +55,7 @@ pub enum Moved {
 }
 
 // The lines that an install settled, from `at` on.
-pub fn settled_at(text: &[u8], at: usize) -> Settled
+pub(crate) fn settled_at(text: &[u8], at: usize) -> Settled
     ensures { λ r. ⌜ FindsSettled (now (text .entry)) (readSettled (drop at (now (text .entry)))) r ⌝ }
 {
     let Named::Is(named, a) = named_at(text, at) else {
@@ -68,7 +68,7 @@ pub fn settled_at(text: &[u8], at: usize) -> Settled
 }
 
 // The lines that the arrivals moved, from `at` on.
-pub fn moved_at(text: &[u8], at: usize) -> Moved
+pub(crate) fn moved_at(text: &[u8], at: usize) -> Moved
     ensures { λ r. ⌜ FindsMoved (now (text .entry)) (readMoved (drop at (now (text .entry)))) r ⌝ }
 {
     if text.len() < at {
@@ -96,7 +96,7 @@ pub fn moved_at(text: &[u8], at: usize) -> Moved
 }
 
 // The place behind the lines that an install settled; the start of the text where they are bad, and then nothing that is read there matters.
-pub fn place(settled: Settled) -> usize
+pub(crate) fn place(settled: Settled) -> usize
     ensures { λ r. ⌜ r ≡ placeOf settled ⌝ }
 {
     match settled {

@@ -28,28 +28,28 @@ pub fn read(text: &[u8]) -> Lines
 }
 
 // A reader at the start of a text.
-pub fn new<'a>(text: &'a [u8]) -> Reader<'a>
+pub(crate) fn new<'a>(text: &'a [u8]) -> Reader<'a>
     ensures { λ r. ⌜ (r .text ≡ text .entry) × (r .at ≡ 0) ⌝ }
 {
     Reader { text, at: 0 }
 }
 
 // The reader at another place of its text.
-pub fn on<'a>(r: Reader<'a>, at: usize) -> Reader<'a>
+pub(crate) fn on<'a>(r: Reader<'a>, at: usize) -> Reader<'a>
     ensures { λ q. ⌜ (q .text ≡ r .entry .text) × (q .at ≡ at) ⌝ }
 {
     Reader { text: r.text, at }
 }
 
 // The lines that an install settled, at the reader's place.
-pub fn settled<'a>(r: Reader<'a>) -> Settled
+pub(crate) fn settled<'a>(r: Reader<'a>) -> Settled
     ensures { λ s. ⌜ FindsSettled (now (r .entry .text)) (readSettled (drop (r .entry .at) (now (r .entry .text)))) s ⌝ }
 {
     lines::settled_at(r.text, r.at)
 }
 
 // The lines that the arrivals moved, at the reader's place.
-pub fn moved<'a>(r: Reader<'a>) -> Moved
+pub(crate) fn moved<'a>(r: Reader<'a>) -> Moved
     ensures { λ m. ⌜ FindsMoved (now (r .entry .text)) (readMoved (drop (r .entry .at) (now (r .entry .text)))) m ⌝ }
 {
     lines::moved_at(r.text, r.at)
