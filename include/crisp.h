@@ -348,10 +348,10 @@ CRISP_CALL CRISP_READS(1, 2)
 struct crisp_record crisp_capture_record(const uint8_t *file, size_t file_len, uint64_t order, size_t at);
 
 /* Keys. Tables and records hold keys in clear, and so do their saved copies: let no other account read the files (mode 0600), nor their backups.
- * crisp_receive and crisp_protect leave the base key and parts of the derived keys in the dead stack below their caller, and bytes of a key or of
- * the payload in registers. crisp_install and crisp_change copy a key, and may leave bytes of it there too. A careful caller clears them, by the
- * function below or by a stack of its own for the calls that it clears afterwards, and writes no core files. crisp_load looks at no byte of a key
- * and leaves none.
+ * crisp_receive and crisp_protect leave what they computed in the dead stack below their caller, keys among it (the base key and a derived one were
+ * found), and bytes of the payload in registers. crisp_install and crisp_change copy a key, and may leave bytes of it there too. A careful caller
+ * clears them, by the function below or by a stack of its own for the calls that it clears afterwards, and writes no core files. crisp_load looks at
+ * no byte of a key and leaves none.
  *
  * crisp_forget clears CRISP_STACK bytes below its caller's frame, and the registers that a call need not keep. Call it from the function that
  * made the call, right after it. It is not proved; the tests find keys after crisp_receive and crisp_protect, none after crisp_load, nothing of an
