@@ -28,7 +28,7 @@ use Rattle.entries.specs.Install.{Left, doneAt, placed, unlessTwin, inst
 use Rattle.entries.proofs.Changes.{changes-not, changes-unfair, changes, changes-alone}
 use Rattle.entries.proofs.Fresh.{length-fresh}
 use Rattle.entries.proofs.Installs.{fair-facts, is-fair, installs-unfair, installs}
-use Rattle.entries.proofs.Outcomes.{Refuses, Enters, Frees, install-outcome, remove-outcome}
+use Rattle.entries.proofs.Outcomes.{Refuses, Enters, Frees, not-done, install-outcome, remove-outcome}
 use Rattle.entries.proofs.Removing.{removes-not, removes, held-small, is-held}
 
 empty-length : length emptySlot ≡ slotLength
@@ -86,7 +86,7 @@ module _ (t : List ℕ) (long : length t ≡ tableLength) (i : ℕ) where
       where
         at-freed : Frees t i → Refuses freed (installed freed k f) ⊎ ((j : ℕ) × Enters freed k f j) → installed freed k f .answer ≡ doneAt i
             → changed t i k f ≡ installed freed k f
-        at-freed g (inl r) e = absurd (omega (arith, r .some, ap (λ (a : Answer). a .reply) (rw (r .is) at e)))
+        at-freed g (inl r) e = absurd (not-done r (ap (λ (a : Answer). a .reply) e))
         at-freed g (inr (j, n)) e =
             let same : j ≡ i = ap (λ (a : Answer). a .slot) (rw (n .is) at e) in
             let full = length-fresh (sound-facts k (n .fair .sound)) (bytes 0) f in
@@ -95,5 +95,5 @@ module _ (t : List ℕ) (long : length t ≡ tableLength) (i : ℕ) where
             ∙ ap (λ (u : List ℕ). record { answer = doneAt i; table = u }) (replaced-again t i emptySlot long (g .small) empty-length (freshSlot k f) full))
 
         by : Refuses t (removed t i) ⊎ Frees t i → changed t i k f ≡ installed (removed t i .table) k f
-        by (inl r) = absurd (omega (arith, r .some, ap (λ (a : Answer). a .reply) (rw (r .is) at freeing)))
+        by (inl r) = absurd (not-done r (ap (λ (a : Answer). a .reply) freeing))
         by (inr g) = rw (g .is) (at-freed g (install-outcome freed k f) (rw (g .is) at entering))

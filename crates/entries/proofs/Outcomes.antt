@@ -32,6 +32,10 @@ pub record Refuses (t : List ℕ) (left : Left) : Type 0 where
   pub some : 1 ≤ reply
   pub is : left ≡ record { answer = refused reply; table = t }
 
+-- what is refused is not done
+pub not-done : {t : List ℕ} {l : Left} → Refuses t l → l .answer .reply ≡ 0 → ⊥
+not-done r done = omega (arith, r .some, ap (λ (x : Left). x .answer .reply) (r .is))
+
 -- a fresh entry without a twin takes the lowest free slot
 pub record Enters (t : List ℕ) (k : KeyData) (f : Frame) (i : ℕ) : Type 0 where
   pub fair : Fair k f
@@ -120,7 +124,7 @@ pub change-done : (t : List ℕ) (i : ℕ) (k : KeyData) (f : Frame) → changed
 change-done t i k f done = by (change-outcome t i k f)
   where
     by : Refuses t (changed t i k f) ⊎ Changes t i k f → Changes t i k f
-    by (inl r) = absurd (omega (arith, r .some, ap (λ (l : Left). l .answer .reply) (r .is)))
+    by (inl r) = absurd (not-done r done)
     by (inr n) = n
 
 -- ---- the table stays as long as it was

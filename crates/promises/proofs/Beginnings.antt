@@ -28,7 +28,7 @@ use Rattle.entries.specs.Fresh.{freshSlot}
 use Rattle.entries.specs.Install.{Left, doneAt, installed}
 use Rattle.entries.proofs.Fresh.{length-fresh, fresh-entry, fresh-keydata, fresh-matches, fresh-undamaged}
 use Rattle.entries.proofs.Installs.{Fair}
-use Rattle.entries.proofs.Outcomes.{Refuses, Enters, install-outcome, change-done}
+use Rattle.entries.proofs.Outcomes.{Refuses, Enters, not-done, install-outcome, change-done}
 use Rattle.promises.specs.Calls.{install, change, after}
 use Rattle.promises.specs.Counted.{fresh, standing}
 use Rattle.promises.specs.History.{Begins}
@@ -64,7 +64,7 @@ module _ (t : List ℕ) (long : length t ≡ tableLength) (k : KeyData) (f : Fra
   install-begins i done = by (install-outcome t k f)
     where
       by : Refuses t (installed t k f) ⊎ ((j : ℕ) × Enters t k f j) → Begins (fresh k f) i (installed t k f .table)
-      by (inl r) = absurd (omega (arith, r .some, ap (λ (a : Answer). a .reply) (rw (r .is) at done)))
+      by (inl r) = absurd (not-done r (ap (λ (a : Answer). a .reply) done))
       by (inr (j, n)) =
           let small = free-small t j (n .free) in
           subst (λ (x : ℕ). Begins (fresh k f) x (installed t k f .table)) (ap (λ (a : Answer). a .slot) (rw (n .is) at done))

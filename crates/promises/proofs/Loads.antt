@@ -26,7 +26,7 @@ use Rattle.slots.proofs.Slots.{slot-length}
 use Rattle.lookup.specs.Lookup.{leadsTo}
 use Rattle.lookup.specs.declared.Found.the-variants.{At}
 use Rattle.entries.specs.Install.{Left, doneAt}
-use Rattle.entries.proofs.Outcomes.{Refuses}
+use Rattle.entries.proofs.Outcomes.{Refuses, not-done}
 use Rattle.listing.specs.Listing.{listingOf, listed}
 use Rattle.listing.proofs.Listed.{lists}
 use Rattle.form.specs.Form.{Listing, listingIn}
@@ -50,7 +50,7 @@ pub done-takes : (t text : List ℕ) → loaded t text .answer .reply ≡ 0 → 
 done-takes t text done = by (load-outcome t text)
   where
     by : Refuses t (loaded t text) ⊎ ((l : Listing) × Takes t text l) → (l : Listing) × Takes t text l
-    by (inl r) = absurd (omega (arith, r .some, ap (λ (z : Left). z .answer .reply) (r .is)))
+    by (inl r) = absurd (not-done r done)
     by (inr n) = n
 
 -- ---- printed again

@@ -38,7 +38,7 @@ use Rattle.entries.specs.Fresh.{freshSlot}
 use Rattle.entries.specs.Install.{Left, doneAt, placed, installed, removed}
 use Rattle.entries.proofs.Fresh.{length-fresh}
 use Rattle.entries.proofs.Installs.{is-fair, installs-alone}
-use Rattle.entries.proofs.Outcomes.{Refuses, Enters, Frees, Changes, install-outcome, remove-outcome, change-outcome}
+use Rattle.entries.proofs.Outcomes.{Refuses, Enters, Frees, Changes, not-done, install-outcome, remove-outcome, change-outcome}
 use Rattle.entries.proofs.Removing.{removes, is-held}
 use Rattle.listing.specs.Listing.{listingOf, listed}
 use Rattle.listing.proofs.Listed.{lists}
@@ -57,7 +57,7 @@ use Rattle.promises.proofs.Beginnings.{install-begins, slot-begins}
 use Rattle.promises.proofs.Held.{Held, held-small, held-alike}
 use Rattle.promises.proofs.Loads.{listing-loads, load-history}
 use Rattle.promises.proofs.Refusals.{receive-keeps}
-use Rattle.promises.proofs.Runs.{begun, stands-on, hands-on, accounts, spares}
+use Rattle.promises.proofs.Runs.{begun, stands-on, hands-on, accounts, done-nowhere, spares}
 use Rattle.promises.proofs.Steps.{Stands, Does, arrives, replied, step, unharmed}
 use Rattle.promises.proofs.Traces.{trace-results, trace-run}
 use Rattle.promises.proofs.Worthless.{answered-gives}
@@ -170,13 +170,13 @@ module _ {b : Beginning} {i : ℕ} where
   removes-too {t} {u} both j done = by (remove-outcome t j) (remove-outcome u j)
     where
       by : Refuses t (removed t j) ⊎ Frees t j → Refuses u (removed u j) ⊎ Frees u j → isDone i (removed u j .answer) ≡ true
-      by (inl r) q = absurd (true≢false (sym done ∙ rw (r .is, ne-eqb (r .reply) 0 (λ z. omega (arith, r .some)))))
+      by (inl r) q = absurd (true≢false (sym done ∙ done-nowhere r i))
       by (inr f) (inr g) = rw (g .is) (rw (f .is) at done)
       by (inr f) (inl r) =
           let same : j ≡ i = eqb-true j i (rw (f .is) at done) in
           let small = held-small (both .second .held) in
           let busy : occupied (slotOf u j) ≡ true = rw (same, ne-eqb (getD (slotOf u i) occupiedAt 0) 0 (held-alike (both .second .held) .held)) in
-          absurd (omega (arith, r .some, ap (λ (l : Left). l .answer .reply) (sym (r .is) ∙ removes u j (is-held u j (rw same small) busy))))
+          absurd (not-done r (ap (λ (l : Left). l .answer .reply) (removes u j (is-held u j (rw same small) busy))))
 
   -- the entry that a listing names stands in one as in the other
   stands-too : {t u : List ℕ} {past : List Told} → InStep b i t u past → (v : SettledValues) → Taken.Stands v (slotOf t i) → Taken.Stands v (slotOf u i)
@@ -188,7 +188,7 @@ module _ {b : Beginning} {i : ℕ} where
   loads-too {t} {u} both text done = by (load-outcome t text)
     where
       by : Refuses t (loaded t text) ⊎ ((l : Listing) × Takes t text l) → isDone i (loaded u text .answer) ≡ true
-      by (inl r) = absurd (true≢false (sym done ∙ rw (r .is, ne-eqb (r .reply) 0 (λ z. omega (arith, r .some)))))
+      by (inl r) = absurd (true≢false (sym done ∙ done-nowhere r i))
       by (inr (l, n)) =
           let slot : l .settled .named .slot ≡ i = eqb-true (l .settled .named .slot) i (rw (n .is) at done) in
           let there = stand-test (l .settled) (slotOf u i) (stands-too both (l .settled) (subst (λ (x : ℕ). Taken.Stands (l .settled) (slotOf t x)) slot (n .stands))) in
@@ -204,7 +204,7 @@ module _ {b : Beginning} {i : ℕ} where
     where
       by : Dec (j ≡ i) → Refuses u (changed u j k f) ⊎ Changes u j k f → isDone i (changed u j k f .answer) ≡ false
       by (no differs) o = spares i u (change j k f) differs
-      by (yes same) (inl r) = rw (r .is, ne-eqb (r .reply) 0 (λ z. omega (arith, r .some)))
+      by (yes same) (inl r) = done-nowhere r i
       by (yes same) (inr n) = absurd (true≢false (sym (is-fair (n .fair)) ∙ other same))
   ends-too both (load text) other goes = not-eq-not .0 (λ e. true≢false (sym (loads-too (swapped both) text e) ∙ goes))
 
@@ -360,7 +360,7 @@ fresh-there : (t : List ℕ) → length t ≡ tableLength → (k : KeyData) (f :
 fresh-there t long k f bytes i done = by (install-outcome t k f)
   where
     by : Refuses t (installed t k f) ⊎ ((j : ℕ) × Enters t k f j) → slotOf (installed t k f .table) i ≡ freshSlot k f
-    by (inl r) = absurd (omega (arith, r .some, ap (λ (a : Answer). a .reply) (rw (r .is) at done)))
+    by (inl r) = absurd (not-done r (ap (λ (a : Answer). a .reply) done))
     by (inr (j, n)) =
         let same : j ≡ i = ap (λ (a : Answer). a .slot) (rw (n .is) at done) in
         rw (n .is, ← same) (slot-own t j (freshSlot k f) long (free-small t j (n .free)) (length-fresh (sound-facts k (n .fair .sound)) (bytes 0) f))
@@ -431,7 +431,7 @@ pub empty-installs : (t : List ℕ) (k : KeyData) (f : Frame) (i : ℕ) → inst
 empty-installs t k f i done = by (install-outcome t k f)
   where
     by : Refuses t (installed t k f) ⊎ ((j : ℕ) × Enters t k f j) → installed empty k f .answer ≡ doneAt 0
-    by (inl r) = absurd (omega (arith, r .some, ap (λ (a : Answer). a .reply) (rw (r .is) at done)))
+    by (inl r) = absurd (not-done r (ap (λ (a : Answer). a .reply) done))
     by (inr (j, n)) =
         ap (λ (l : Left). l .answer)
         (installs-alone empty k f (n .fair) (nowhere (k .flag) (k .keyId) (k .source)) ∙ ap (placed empty (freshSlot k f)) first-slot)

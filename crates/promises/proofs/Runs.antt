@@ -13,7 +13,7 @@ use Rattle.format.proofs.Soundness.{Sound}
 use Rattle.slots.specs.Table.{slotOf, tableLength}
 use Rattle.slots.proofs.Damage.{undamaged-sound, undamaged-entry}
 use Rattle.entries.specs.Change.{changed}
-use Rattle.entries.specs.Install.{removed}
+use Rattle.entries.specs.Install.{Left, removed}
 use Rattle.entries.proofs.Outcomes.{Refuses, Frees, Changes, remove-outcome, change-outcome, install-length, remove-length, change-length}
 use Rattle.form.specs.Form.{Listing}
 use Rattle.loading.specs.Load.{loaded}
@@ -83,23 +83,27 @@ module _ {b : Beginning} {i : ℕ} where
 
 -- ---- calls that do not ask for the removal or a change of the slot, or have its listing
 
+-- what is refused is done at no slot
+pub done-nowhere : {t : List ℕ} {l : Left} → Refuses t l → (i : ℕ) → isDone i (l .answer) ≡ false
+done-nowhere r i = rw (r .is, ne-eqb (r .reply) 0 (λ z. omega (arith, r .some)))
+
 pub spares : (i : ℕ) (t : List ℕ) (c : Call) → Spares i c → ends i c (called t c .answer) ≡ false
 spares i t (arrival message source out) s = refl
 spares i t (install k f) s = refl
 spares i t (remove j) s = by (remove-outcome t j)
   where
     by : Refuses t (removed t j) ⊎ Frees t j → isDone i (removed t j .answer) ≡ false
-    by (inl r) = rw (r .is, ne-eqb (r .reply) 0 (λ z. omega (arith, r .some)))
+    by (inl r) = done-nowhere r i
     by (inr f) = rw (f .is, ne-eqb j i s)
 spares i t (change j k f) s = by (change-outcome t j k f)
   where
     by : Refuses t (changed t j k f) ⊎ Changes t j k f → isDone i (changed t j k f .answer) ≡ false
-    by (inl r) = rw (r .is, ne-eqb (r .reply) 0 (λ z. omega (arith, r .some)))
+    by (inl r) = done-nowhere r i
     by (inr c) = rw (c .is, ne-eqb j i s)
 spares i t (load text) s = by (load-outcome t text)
   where
     by : Refuses t (loaded t text) ⊎ ((l : Listing) × Takes t text l) → isDone i (loaded t text .answer) ≡ false
-    by (inl r) = rw (r .is, ne-eqb (r .reply) 0 (λ z. omega (arith, r .some)))
+    by (inl r) = done-nowhere r i
     by (inr (l, n)) = rw (n .is, ne-eqb (l .settled .named .slot) i (s l (n .read)))
 
 pub spared : (i : ℕ) (t : List ℕ) (cs : List Call) → SpareAll i cs → GoesOn i t cs
