@@ -16,7 +16,7 @@ use Rattle.window.specs.Entry.{freshEntry}
 use Rattle.window.specs.Window.{soundFrame}
 use Rattle.window.proofs.Entries.{entry-test, fresh-entry-undamaged}
 use Rattle.window.proofs.Undamaged.{SoundFrame, frame-facts}
-use Rattle.slots.specs.Table.{flagOf, csOf, editionOf, keyIdLengthOf, keyIdOf, sourceLengthOf, sourceOf, keyOf, entryOf, slotLength, occupiedAt, highestAt, marksAt, acceptedAt, bytesAt, keyIdRoom, sourceRoom, keyDataOf}
+use Rattle.slots.specs.Table.{flagOf, csOf, editionOf, keyIdLengthOf, keyIdOf, sourceLengthOf, sourceOf, keyOf, entryOf, slotLength, occupiedAt, highestAt, marksAt, acceptedAt, bytesAt, replaysAt, forgedAt, keyIdRoom, sourceRoom, keyDataOf}
 use Rattle.slots.specs.Record.{undamaged}
 use Rattle.entries.specs.Fresh.{padded, prefixed, headOf, frameBytes, freshSlot}
 use Rattle.entries.proofs.Bounds.{keyid-most, suite-byte, edition-byte}
@@ -107,6 +107,8 @@ module _ {k : KeyData} (sound : Sound k) (b : getD (k .keyId) 0 0 < 256) (f : Fr
         zeros (slotLength - highestAt) (there 11) (marksAt - highestAt) 32 (lit≤ tt),
         zeros (slotLength - highestAt) (there 11) (acceptedAt - highestAt) 8 (lit≤ tt),
         zeros (slotLength - highestAt) (there 11) (bytesAt - highestAt) 8 (lit≤ tt),
+        zeros (slotLength - highestAt) (there 11) (replaysAt - highestAt) 8 (lit≤ tt),
+        zeros (slotLength - highestAt) (there 11) (forgedAt - highestAt) 8 (lit≤ tt),
       )
 
   -- it holds the key data, matches it, and is undamaged

@@ -16,7 +16,7 @@ use Rattle.answers.specs.Answers.{refused, outputRoom, outputSmall, damaged, no
 use Rattle.answers.specs.declared.Answer.{Answer}
 use Rattle.slots.specs.Table.{slotOf, occupied, flagOf, csOf, editionOf, keyIdLengthOf, keyIdOf, sourceLengthOf, sourceOf, entryOf, slotLength, slotCount, occupiedAt, keyIdAt, sourceAt, isHeld}
 use Rattle.slots.specs.Record.{undamaged}
-use Rattle.listing.specs.Listing.{namedLines, termLines, movedLines, listingOf, Listed, IsListed, listed}
+use Rattle.listing.specs.Listing.{namedLines, termLines, movedLines, counterLines, listingOf, Listed, IsListed, listed}
 use Rattle.text.proofs.Decimals.{length-decimal}
 use Rattle.text.proofs.Hex.{length-hex}
 use Rattle.slots.proofs.Slots.{lent, slot-lent, slot-byte}
@@ -111,6 +111,10 @@ moved-most s =
       length-bytes 32 (entryOf s .window .marks),
     ))
 
+counters-most : (s : List ℕ) → length (counterLines s) ≤ 60
+unfolding counterLines
+counters-most s = simp length-append (omega (arith, length-decimal (entryOf s .counters .replays), length-decimal (entryOf s .counters .forged)))
+
 -- the length that a listing answers is within its output
 pub listed-within : (t : List ℕ) (i : ℕ) (out : List ℕ) → listed t i out .answer .length ≤ length out
 unfolding listed
@@ -125,4 +129,4 @@ listed-within t i out =
     done : ltb (length out) outputRoom ≡ false → length (listingOf i (slotOf t i)) ≤ length out
     done room =
         let short : length (slotOf t i) ≤ slotLength = omega (arith, length-take slotLength (drop (slotLength * i) t)) in
-        simp length-append (omega (arith, ltb-false (length out) outputRoom room, named-most i (slotOf t i) short, terms-most (slotOf t i), moved-most (slotOf t i)))
+        simp length-append (omega (arith, ltb-false (length out) outputRoom room, named-most i (slotOf t i) short, terms-most (slotOf t i), moved-most (slotOf t i), counters-most (slotOf t i)))

@@ -12,10 +12,10 @@ use Rattle.octets.specs.Octets.{Bytes, bigEndian, bytesOf, part}
 use Rattle.octets.proofs.BigEndian.{bytes-drop, bytes-take, length-bytes, bytes-number}
 use Rattle.octets.proofs.Parts.{length-part}
 use Rattle.format.proofs.KeyIds.{length-most}
-use Rattle.slots.specs.Table.{flagOf, csOf, editionOf, keyIdLengthOf, keyIdOf, sourceLengthOf, sourceOf, slotLength, keyIdLengthAt, keyIdAt, sourceAt, sizeAt, startAt, highestAt, marksAt, acceptedAt, bytesAt, keyIdRoom}
+use Rattle.slots.specs.Table.{flagOf, csOf, editionOf, keyIdLengthOf, keyIdOf, sourceLengthOf, sourceOf, slotLength, keyIdLengthAt, keyIdAt, sourceAt, sizeAt, startAt, highestAt, marksAt, acceptedAt, bytesAt, replaysAt, forgedAt, keyIdRoom}
 use Rattle.slots.specs.Record.{undamaged}
 use Rattle.text.specs.Text.{decimalLine, hexLine}
-use Rattle.listing.specs.Listing.{slotName, flagName, keyIdName, sourceName, suiteName, editionName, sizeName, startName, highestName, marksName, acceptedName, bytesName, namedLines, termLines, movedLines}
+use Rattle.listing.specs.Listing.{slotName, flagName, keyIdName, sourceName, suiteName, editionName, sizeName, startName, highestName, marksName, acceptedName, bytesName, replaysName, forgedName, namedLines, termLines, movedLines, counterLines}
 use Rattle.slots.proofs.Damage.{undamaged-sound}
 use Rattle.octets.proofs.Places.{Written, further}
 
@@ -68,6 +68,14 @@ module _ (s : List ℕ) (long : length s ≡ slotLength) (b : Bytes s) where
       → Written l at (termLines s) o₄ e₄
   unfolding termLines
   terms-written l at h suite edition z size t start = rw (← z, ← t) (further (further (further suite h edition) h size) h start)
+
+-- how many were turned away
+pub counters-written : {o₁ o₂ : List ℕ} {e₁ e₂ replays forged : ℕ} (s l : List ℕ) (at : ℕ) → at ≤ length l
+    → replays ≡ bigEndian 8 (drop replaysAt s) → Written l at (decimalLine replaysName replays) o₁ e₁
+    → forged ≡ bigEndian 8 (drop forgedAt s) → Written o₁ e₁ (decimalLine forgedName forged) o₂ e₂
+    → Written l at (counterLines s) o₂ e₂
+unfolding counterLines
+counters-written s l at h a first b second = rw (← a, ← b) (further first h second)
 
 -- the lines that say which entry it is
 pub named-written : {o₁ o₂ o₃ o₄ : List ℕ} {e₁ e₂ e₃ e₄ : ℕ} (l : List ℕ) (i : ℕ) (s : List ℕ)

@@ -1,6 +1,7 @@
--- 01's listing of an entry ("Numbers on both sides of the edge"), from `slot=` to `bytes=`: "Each line ends with a line feed. keyid, source,
+-- 01's listing of an entry ("Numbers on both sides of the edge"): "Each line ends with a line feed. keyid, source,
 -- highest, marks are lower-case hex, two digits a byte, highest 12 digits and marks 64; the rest is decimal." 02, No. 2: "The listing gets `start=`
--- in decimal after `size=`." No. 4: "The listing gets `edition=` after `suite=`."
+-- in decimal after `size=`." No. 4: "The listing gets `edition=` after `suite=`." No. 8: "The
+-- listing ends with `replays=` and `forged=`, in decimal".
 use mathlib.Core.Path.{_≡_}
 use mathlib.Core.Bool.{cond}
 use mathlib.Core.List.{List, [], _∷_, _++_}
@@ -14,7 +15,7 @@ use Rattle.answers.specs.declared.Answer.{Answer}
 use Rattle.slots.specs.Table.{slotOf, flagOf, csOf, editionOf, keyIdOf, sourceOf, entryOf, isHeld}
 use Rattle.slots.specs.Record.{undamaged}
 
--- the names of the lines: slot= flag= keyid= source= suite= edition= size= start= highest= marks= accepted= bytes=
+-- the names of the lines: slot= flag= keyid= source= suite= edition= size= start= highest= marks= accepted= bytes= replays= forged=
 abbrev pub slotName : List ℕ
 slotName = 115 ∷ 108 ∷ 111 ∷ 116 ∷ 61 ∷ []
 
@@ -51,6 +52,12 @@ acceptedName = 97 ∷ 99 ∷ 99 ∷ 101 ∷ 112 ∷ 116 ∷ 101 ∷ 100 ∷ 61 �
 abbrev pub bytesName : List ℕ
 bytesName = 98 ∷ 121 ∷ 116 ∷ 101 ∷ 115 ∷ 61 ∷ []
 
+abbrev pub replaysName : List ℕ
+replaysName = 114 ∷ 101 ∷ 112 ∷ 108 ∷ 97 ∷ 121 ∷ 115 ∷ 61 ∷ []
+
+abbrev pub forgedName : List ℕ
+forgedName = 102 ∷ 111 ∷ 114 ∷ 103 ∷ 101 ∷ 100 ∷ 61 ∷ []
+
 -- ---- the listing
 
 -- which entry it is
@@ -66,7 +73,7 @@ termLines s =
     ++ decimalLine sizeName (entryOf s .window .frame .size)
     ++ decimalLine startName (entryOf s .window .frame .start)
 
--- what the arrivals moved
+-- what the arrivals that were handed out moved
 unfoldable pub movedLines : List ℕ → List ℕ
 movedLines s =
     hexLine highestName (bytesOf 6 (entryOf s .window .highest))
@@ -74,8 +81,12 @@ movedLines s =
     ++ decimalLine acceptedName (entryOf s .accepted)
     ++ decimalLine bytesName (entryOf s .bytes)
 
+-- how many were turned away
+unfoldable pub counterLines : List ℕ → List ℕ
+counterLines s = decimalLine replaysName (entryOf s .counters .replays) ++ decimalLine forgedName (entryOf s .counters .forged)
+
 abbrev pub listingOf : ℕ → List ℕ → List ℕ
-listingOf i s = namedLines i s ++ termLines s ++ movedLines s
+listingOf i s = namedLines i s ++ termLines s ++ movedLines s ++ counterLines s
 
 -- what listing leaves in the output
 pub record Listed : Type 0 where

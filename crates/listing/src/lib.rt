@@ -7,13 +7,13 @@ ghost use Rattle.octets.specs.Octets.{put};
 ghost use Rattle.answers.specs.Answers.{outputRoom};
 ghost use Rattle.slots.specs.Table.{slotLength, tableLength};
 ghost use Rattle.slots.specs.Record.{undamaged};
-ghost use Rattle.listing.specs.Listing.{namedLines, termLines, movedLines, listingOf, IsListed, listed};
+ghost use Rattle.listing.specs.Listing.{namedLines, termLines, movedLines, counterLines, listingOf, IsListed, listed};
 use answers::Answer;
 use slots::layout;
 use slots::layout::TABLE;
 use slots::record;
 
-// The listing of the entry in a slot, from `slot=` to `bytes=`, is written at the start of the output; the answer has its length. Refuses with
+// The listing of the entry in a slot, from `slot=` to `forged=`, is written at the start of the output; the answer has its length. Refuses with
 // 1 (output under 2,048 bytes), 16 (slot over 15, or free) and 7 (record damaged), in that order.
 pub fn listing(table: &[u8; TABLE], slot: usize, out: &mut [u8]) -> Answer
     ensures { λ r. ⌜ IsListed (listed (now (table .entry)) slot (now (out .entry))) r (now (out .exit)) ⌝ }
@@ -56,7 +56,8 @@ fn write_lines(i: usize, slot: &[u8], out: &mut [u8]) -> usize
 {
     let named = write_named(i, slot, out);
     let settled = write_terms(slot, out, named);
-    write_moved(slot, out, settled)
+    let moved = write_moved(slot, out, settled);
+    write_counters(slot, out, moved)
 }
 
 // The lines that say which entry it is. Answers where they end.
@@ -85,10 +86,10 @@ fn write_terms(slot: &[u8], out: &mut [u8], at: usize) -> usize
     text::write_decimal_line(b"start=", octets::read(slot, layout::START, 8), out, c)
 }
 
-// The lines that the arrivals moved, from `at` on. Answers where they end.
+// The lines that the arrivals moved which were handed out, from `at` on. Answers where they end.
 fn write_moved(slot: &[u8], out: &mut [u8], at: usize) -> usize
     requires { ⌜ (length (now slot) ≡ slotLength) × (at ≤ 780) × (outputRoom ≤ length (now out)) ⌝ }
-    ensures { λ r. ⌜ r ≡ at + length (movedLines (now (slot .entry))) ⌝ }
+    ensures { λ r. ⌜ (r ≡ at + length (movedLines (now (slot .entry)))) × (r ≤ 1000) ⌝ }
     ensures { λ r. ⌜ now (out .exit) ≡ put (now (out .entry)) at (movedLines (now (slot .entry))) ⌝ }
 {
     let a = text::write_hex_line(
@@ -105,4 +106,14 @@ fn write_moved(slot: &[u8], out: &mut [u8], at: usize) -> usize
         b,
     );
     text::write_decimal_line(b"bytes=", octets::read(slot, layout::BYTES, 8), out, c)
+}
+
+// The lines of what was turned away, from `at` on. Answers where they end.
+fn write_counters(slot: &[u8], out: &mut [u8], at: usize) -> usize
+    requires { ⌜ (length (now slot) ≡ slotLength) × (at ≤ 1000) × (outputRoom ≤ length (now out)) ⌝ }
+    ensures { λ r. ⌜ r ≡ at + length (counterLines (now (slot .entry))) ⌝ }
+    ensures { λ r. ⌜ now (out .exit) ≡ put (now (out .entry)) at (counterLines (now (slot .entry))) ⌝ }
+{
+    let a = text::write_decimal_line(b"replays=", octets::read(slot, layout::REPLAYS, 8), out, at);
+    text::write_decimal_line(b"forged=", octets::read(slot, layout::FORGED, 8), out, a)
 }

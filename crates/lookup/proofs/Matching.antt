@@ -11,7 +11,7 @@ use Rattle.numbers.proofs.Tests.{and-left, and-right}
 use Rattle.octets.specs.Octets.{same}
 use Rattle.octets.proofs.Same.{same-refl, same-true}
 use Rattle.slots.specs.Table.{flagOf, keyIdLengthOf, keyIdOf, sourceLengthOf, sourceOf, occupiedAt, keyIdRoom, sourceRoom}
-use Rattle.slots.proofs.Settled.{SameKeys}
+use Rattle.slots.proofs.Rewriting.{SameKeys}
 use Rattle.lookup.specs.Lookup.{matches}
 
 -- all but the source agrees

@@ -3,12 +3,13 @@
 use mathlib.Core.Path.{_≡_, refl, sym, ap, _∙_}
 use mathlib.Core.List.{List, _++_, append-assoc}
 use mathlib.Core.Logic.{⊎-elim, _⊎_}
-use Prim.Native.Nat.{ℕ, zero, suc, _+_, _-_, _≤_, _<_}
+use Prim.Native.Nat.{ℕ, zero, suc, _+_, _-_, _*_, _^_, _≤_, _<_}
 use native.Mathlib.Nat.{add-assoc}
 use native.Mathlib.Omega.{arith}
 use lib.ListN.{length, getD, take, drop, length-append, length-drop, take-append-drop, List·getD-append}
-use lib.Seq.{length-take-le, getD-append-add, getD-take, getD-drop, ext-getD, take-add, take-take, drop-drop, drop-append-le, take-at, drop-at}
-use Rattle.octets.specs.Octets.{bigEndian, part, put}
+use lib.Seq.{length-take-le, getD-append-add, getD-take, getD-drop, ext-getD, take-add, take-take, drop-drop, take-append-le, drop-append-le, drop-append-add, take-at, drop-at}
+use Rattle.octets.specs.Octets.{bigEndian, bytesOf, part, put}
+use Rattle.octets.proofs.BigEndian.{length-bytes, number-there}
 use Rattle.octets.proofs.Places.{length-put}
 
 pub length-part : (at n : ℕ) (l : List ℕ) → at + n ≤ length l → length (part at n l) ≡ n
@@ -80,6 +81,49 @@ module _ (l : List ℕ) (at : ℕ) (new : List ℕ) (h : at + length new ≤ len
       part-at b n (put l at new) i q
       ∙ ⊎-elim (λ (o : b + n ≤ at). put-below (b + i) (omega arith)) (λ (o : at + length new ≤ b). put-above (b + i) (omega arith)) beside
       ∙ sym (part-at b n l i q))
+
+  -- a number that stands beside it
+  pub number-other : (b n : ℕ) → (b + n ≤ at) ⊎ (at + length new ≤ b) → bigEndian n (drop b (put l at new)) ≡ bigEndian n (drop b l)
+  number-other b n beside =
+      number-same n (drop b (put l at new)) (drop b l)
+      (λ i p.
+      getD-drop b (put l at new) i 0
+      ∙ ⊎-elim (λ (o : b + n ≤ at). put-below (b + i) (omega arith)) (λ (o : at + length new ≤ b). put-above (b + i) (omega arith)) beside
+      ∙ sym (getD-drop b l i 0))
+
+  -- all before it, and all behind it
+  pub take-put : (m : ℕ) → m ≤ at → take m (put l at new) ≡ take m l
+  take-put m k =
+      ap (take m) (append-assoc (take at l) new (drop (at + length new) l))
+      ∙ take-append-le m (take at l) (new ++ drop (at + length new) l) (rw front k) ∙ take-take m at l k
+
+  pub drop-put : (m : ℕ) → at + length new ≤ m → drop m (put l at new) ≡ drop m l
+  drop-put m k =
+      let e : at + length new + (m - (at + length new)) ≡ m = omega arith in
+      rw e at
+      ((rw both at (drop-append-add (take at l ++ new) (drop (at + length new) l) (m - (at + length new))))
+      ∙ drop-drop (m - (at + length new)) (at + length new) l)
+
+-- a number that was written
+pub number-own : (l : List ℕ) (at n x : ℕ) → at ≤ length l → x < 2 ^ (8 * n) → bigEndian n (drop at (put l at (bytesOf n x))) ≡ x
+number-own l at n x h small = number-there n x at (take at l) (drop (at + length (bytesOf n x)) l) (length-take-le at l h) small
+
+-- lists that are the same up to a place
+module _ (m : ℕ) (l other : List ℕ) (alike : take m other ≡ take m l) where
+  pub alike-at : (i : ℕ) → i < m → getD other i 0 ≡ getD l i 0
+  alike-at i h = sym (getD-take m other i 0 h) ∙ ap (λ (u : List ℕ). getD u i 0) alike ∙ getD-take m l i 0 h
+
+  pub alike-part : m ≤ length l → m ≤ length other → (at n : ℕ) → at + n ≤ m → part at n other ≡ part at n l
+  alike-part p q at n h =
+      let long : length (part at n other) ≡ n = length-part at n other (omega arith) in
+      ext-getD 0 (part at n other) (part at n l) (long ∙ sym (length-part at n l (omega arith)))
+      (λ i k.
+      let j : i < n = rw long at k in
+      part-at at n other i j ∙ alike-at (at + i) (omega arith) ∙ sym (part-at at n l i j))
+
+  pub alike-number : (at n : ℕ) → at + n ≤ m → bigEndian n (drop at other) ≡ bigEndian n (drop at l)
+  alike-number at n h =
+      number-same n (drop at other) (drop at l) (λ i k. getD-drop at other i 0 ∙ alike-at (at + i) (omega arith) ∙ sym (getD-drop at l i 0))
 
 -- a write within a part is a write of the part
 pub put-within : (l : List ℕ) (at m b : ℕ) (new : List ℕ) → at + m ≤ length l → b + length new ≤ m → put l (at + b) new ≡ put l at (put (part at m l) b new)

@@ -11,18 +11,19 @@ use Rattle.numbers.proofs.Tests.{and-left, and-right}
 use Rattle.octets.specs.Octets.{bigEndian, part}
 use Rattle.format.specs.KeyData.{soundOf}
 use Rattle.format.proofs.Soundness.{Sound, sound-facts, unsound}
+use Rattle.window.specs.declared.Counters.{Counters}
 use Rattle.window.specs.Window.{View}
 use Rattle.window.specs.Entry.{undamagedEntry}
 use Rattle.window.proofs.Entries.{UndamagedEntry, entry-facts, totals-small}
-use Rattle.slots.specs.Table.{slotOf, flagOf, csOf, editionOf, keyIdLengthOf, sourceLengthOf, sourceOf, keyOf, windowOf, entryOf, slotLength, slotCount, tableLength, keyIdAt, sourceLengthAt, sourceAt, keyAt, sizeAt, acceptedAt, bytesAt, keyDataOf, sourceRoom}
+use Rattle.slots.specs.Table.{slotOf, flagOf, csOf, editionOf, keyIdLengthOf, sourceLengthOf, sourceOf, keyOf, windowOf, countersOf, entryOf, slotLength, slotCount, tableLength, keyIdAt, sourceLengthAt, sourceAt, keyAt, sizeAt, acceptedAt, bytesAt, keyDataOf, sourceRoom}
 use Rattle.slots.specs.Record.{undamaged}
 use Rattle.slots.proofs.Slots.{slot-byte, slot-number, slot-part, slot-length}
 
 module _ (s : List ℕ) where
   -- an entry's parts, as they were read
-  pub entry-is : {w : View} {a b : ℕ} → w ≡ windowOf s → a ≡ bigEndian 8 (drop acceptedAt s) → b ≡ bigEndian 8 (drop bytesAt s)
-      → record { window = w; accepted = a; bytes = b } ≡ entryOf s
-  entry-is e f g = rw (e, f, g)
+  pub entry-is : {w : View} {a b : ℕ} {c : Counters} → w ≡ windowOf s → a ≡ bigEndian 8 (drop acceptedAt s) → b ≡ bigEndian 8 (drop bytesAt s) → c ≡ countersOf s
+      → record { window = w; accepted = a; bytes = b; counters = c } ≡ entryOf s
+  entry-is e f g h = rw (e, f, g, h)
 
   -- ---- the key data
 

@@ -1,20 +1,24 @@
--- Window and totals are written into a slot one behind the other, the marks word by word.
+-- Window, totals and counters are written into a slot one behind the other, the marks word by word.
 -- Assumes nothing.
-use mathlib.Core.Path.{_≡_, sym, ap, _∙_}
-use mathlib.Core.List.{List}
-use Prim.Native.Nat.{ℕ, _+_, _*_, _≤_}
+use mathlib.Core.Path.{_≡_, refl, sym, ap, _∙_}
+use mathlib.Core.List.{List, append-assoc}
+use Prim.Native.Nat.{ℕ, _+_, _*_, _≤_, _<_}
 use native.Mathlib.Nat.{add-assoc}
+use native.Mathlib.Omega.{arith}
 use lib.Dec.{lit≤}
-use lib.ListN.{length, getD, drop}
+use lib.ListN.{length, getD, drop, length-append}
 use Rattle.numbers.specs.Digits.{fromDigits}
 use Rattle.numbers.proofs.FromDigits.{Digits}
 use Rattle.octets.specs.Octets.{bigEndian, bytesOf, put}
 use Rattle.octets.proofs.BigEndian.{length-bytes}
-use Rattle.octets.proofs.Places.{put-four}
+use Rattle.octets.proofs.Parts.{put-within}
+use Rattle.octets.proofs.Places.{Written, and-then, put-four}
 use Rattle.window.specs.Window.{View, acceptOf}
-use Rattle.window.specs.Entry.{taken}
+use Rattle.window.specs.Counters.{oneMore}
+use Rattle.window.specs.Entry.{Entry, taken, counting}
+use Rattle.window.specs.declared.Counters.{Counters}
 use Rattle.words.proofs.FourWords.{four-is}
-use Rattle.slots.specs.Table.{slotOf, windowOf, entryOf, settled, slotLength, highestAt, marksAt, acceptedAt, bytesAt}
+use Rattle.slots.specs.Table.{slotOf, windowOf, countersOf, entryOf, historyBytes, settled, restored, replaced, raised, slotLength, slotCount, tableLength, highestAt, marksAt, acceptedAt, bytesAt, replaysAt, forgedAt}
 use Rattle.slots.proofs.Slots.{slot-number}
 use Rattle.slots.proofs.Windows.{marks-bytes}
 
@@ -33,7 +37,7 @@ marks-put l one two three last at m h n d e f g k =
 pub settled-put : (t one two three last : List ℕ) (i : ℕ) (w : View) (accepted bytes : ℕ) → slotLength * i + highestAt ≤ length t
     → one ≡ put t (slotLength * i + highestAt) (bytesOf 8 (w .highest)) → two ≡ put one (slotLength * i + marksAt) (bytesOf 32 (w .marks))
     → three ≡ put two (slotLength * i + acceptedAt) (bytesOf 8 accepted) → last ≡ put three (slotLength * i + bytesAt) (bytesOf 8 bytes)
-    → last ≡ settled t i (record { window = w; accepted = accepted; bytes = bytes })
+    → last ≡ settled t i (record { window = w; accepted = accepted; bytes = bytes; counters = countersOf (slotOf t i) })
 unfolding settled
 settled-put t one two three last i w accepted bytes h e f g k =
     let at = slotLength * i in
@@ -47,8 +51,29 @@ settled-put t one two three last i w accepted bytes h e f g k =
 -- the entry that takes a message, from its totals as they were read and the window that moved
 pub taken-put : (t after : List ℕ) (i : ℕ) (w v : View) (n a b payload : ℕ) → w ≡ windowOf (slotOf t i) → v ≡ acceptOf w n
     → a ≡ bigEndian 8 (drop (slotLength * i + acceptedAt) t) → b ≡ bigEndian 8 (drop (slotLength * i + bytesAt) t)
-    → after ≡ settled t i (record { window = v; accepted = a + 1; bytes = b + payload }) → after ≡ settled t i (taken (entryOf (slotOf t i)) n payload)
+    → after ≡ settled t i (record { window = v; accepted = a + 1; bytes = b + payload; counters = countersOf (slotOf t i) }) → after ≡ settled t i (taken (entryOf (slotOf t i)) n payload)
 taken-put t after i w v n a b payload e f g h k =
     let accepted = g ∙ sym (slot-number t i acceptedAt 8 (lit≤ tt)) in
     let bytes = h ∙ sym (slot-number t i bytesAt 8 (lit≤ tt)) in
     k ∙ ap (settled t i) (rw (f, e, accepted, bytes))
+
+-- the counters behind window and totals
+pub restored-put : (t one two last : List ℕ) (i : ℕ) (e : Entry) (c : Counters) → slotLength * i + highestAt ≤ length t → one ≡ settled t i (counting e c)
+    → two ≡ put one (slotLength * i + replaysAt) (bytesOf 8 (e .counters .replays)) → last ≡ put two (slotLength * i + forgedAt) (bytesOf 8 (e .counters .forged))
+    → last ≡ restored t i e
+unfolding settled restored
+restored-put t one two last i e c h f g k =
+    let at = slotLength * i in
+    let first : Written t (at + highestAt) (historyBytes e) one (at + replaysAt) = record { ends = simp (length-append, length-bytes) (omega arith); is = f } in
+    let second = and-then first h (bytesOf 8 (e .counters .replays)) (at + forgedAt) (rw length-bytes (add-assoc at replaysAt 8)) g in
+    and-then second h (bytesOf 8 (e .counters .forged)) _ refl k .is
+    ∙ ap (put t (at + highestAt)) (append-assoc (historyBytes e) (bytesOf 8 (e .counters .replays)) (bytesOf 8 (e .counters .forged)))
+
+-- one refusal more, in a counter as it was read
+pub raised-put : (t after : List ℕ) (i at n m : ℕ) → length t ≡ tableLength → i < slotCount → at + 8 ≤ slotLength → n ≡ bigEndian 8 (drop (slotLength * i + at) t) → m ≡ oneMore n
+    → after ≡ put t (slotLength * i + at) (bytesOf 8 m) → after ≡ raised t i at
+unfolding raised
+raised-put t after i at n m long small fits read more is =
+    let counter : n ≡ bigEndian 8 (drop at (slotOf t i)) = read ∙ sym (slot-number t i at 8 fits) in
+    is ∙ put-within t (slotLength * i) slotLength at (bytesOf 8 m) (omega arith) (rw length-bytes fits)
+    ∙ ap (λ (x : ℕ). replaced t i (put (slotOf t i) at (bytesOf 8 x))) (more ∙ ap oneMore counter)

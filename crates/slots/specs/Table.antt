@@ -9,6 +9,8 @@ use Rattle.octets.specs.Octets.{bigEndian, bytesOf, part, put}
 use Rattle.format.specs.KeyData.{KeyData}
 use Rattle.window.specs.Window.{View}
 use Rattle.window.specs.declared.Frame.{Frame}
+use Rattle.window.specs.Counters.{oneMore}
+use Rattle.window.specs.declared.Counters.{Counters}
 use Rattle.window.specs.Entry.{Entry}
 
 -- ---- the layout
@@ -75,12 +77,15 @@ acceptedAt = 254
 abbrev pub bytesAt : ℕ
 bytesAt = 262
 
--- kept for two counters, and not read yet; two bytes of a slot are left behind them
 abbrev pub replaysAt : ℕ
 replaysAt = 270
 
 abbrev pub forgedAt : ℕ
 forgedAt = 278
+
+-- two bytes of a slot that nothing uses
+abbrev pub spareAt : ℕ
+spareAt = 286
 
 -- the bytes of slot i
 abbrev pub slotOf : List ℕ → ℕ → List ℕ
@@ -130,8 +135,12 @@ frameOf s = record { size = bigEndian 8 (drop sizeAt s); start = bigEndian 8 (dr
 abbrev pub windowOf : List ℕ → View
 windowOf s = record { frame = frameOf s; highest = bigEndian 8 (drop highestAt s); marks = bigEndian 32 (drop marksAt s) }
 
+abbrev pub countersOf : List ℕ → Counters
+countersOf s = record { replays = bigEndian 8 (drop replaysAt s); forged = bigEndian 8 (drop forgedAt s) }
+
 abbrev pub entryOf : List ℕ → Entry
-entryOf s = record { window = windowOf s; accepted = bigEndian 8 (drop acceptedAt s); bytes = bigEndian 8 (drop bytesAt s) }
+entryOf s =
+    record { window = windowOf s; accepted = bigEndian 8 (drop acceptedAt s); bytes = bigEndian 8 (drop bytesAt s); counters = countersOf s }
 
 -- ---- written
 
@@ -139,13 +148,28 @@ entryOf s = record { window = windowOf s; accepted = bigEndian 8 (drop acceptedA
 abbrev pub historyBytes : Entry → List ℕ
 historyBytes e = bytesOf 8 (e .window .highest) ++ bytesOf 32 (e .window .marks) ++ bytesOf 8 (e .accepted) ++ bytesOf 8 (e .bytes)
 
+-- and those that its counters take
+abbrev pub counterBytes : Counters → List ℕ
+counterBytes c = bytesOf 8 (c .replays) ++ bytesOf 8 (c .forged)
+
 -- the table with another window and other totals in slot i
 unfoldable pub settled : List ℕ → ℕ → Entry → List ℕ
 settled t i e = put t (slotLength * i + highestAt) (historyBytes e)
 
+-- and with other counters too
+unfoldable pub restored : List ℕ → ℕ → Entry → List ℕ
+restored t i e = put t (slotLength * i + highestAt) (historyBytes e ++ counterBytes (e .counters))
+
 -- the table with other bytes in slot i
 abbrev pub replaced : List ℕ → ℕ → List ℕ → List ℕ
 replaced t i s = put t (slotLength * i) s
+
+-- a slot with one refusal more in the counter that stands at a place of it, and the table with such a slot
+abbrev pub raisedIn : ℕ → List ℕ → List ℕ
+raisedIn at s = put s at (bytesOf 8 (oneMore (bigEndian 8 (drop at s))))
+
+unfoldable pub raised : List ℕ → ℕ → ℕ → List ℕ
+raised t i at = replaced t i (raisedIn at (slotOf t i))
 
 -- a free slot
 abbrev pub emptySlot : List ℕ

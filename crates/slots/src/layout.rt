@@ -38,7 +38,7 @@ pub const ACCEPTED: usize = 254;
 
 pub const BYTES: usize = 262;
 
-// Kept for two counters: zero in a fresh entry, and not read. Two bytes of a slot are left behind them.
+// The two counters of refused arrivals. Two bytes of a slot are left behind them.
 pub const REPLAYS: usize = 270;
 
 pub const FORGED: usize = 278;

@@ -1,4 +1,4 @@
-// Window and totals of an entry: read from its slot, checked by the damage rule, and written back.
+// Window, totals and counters of an entry: read from its slot, checked by the damage rule, and written back.
 ghost use mathlib.Core.Bool.{true};
 ghost use mathlib.Core.Path.{_≡_};
 ghost use Prim.Native.Nat.{_+_, _<_, _≤_};
@@ -10,11 +10,12 @@ ghost use Rattle.format.specs.KeyData.{soundOf};
 ghost use Rattle.window.specs.Window.{viewOf, verdictOf};
 ghost use Rattle.window.specs.Entry.{taken};
 ghost use Rattle.window.specs.declared.Verdict.the-variants.{Admissible};
-ghost use Rattle.slots.specs.Table.{slotOf, windowOf, entryOf, settled, slotLength, slotCount, tableLength, keyDataOf};
+ghost use Rattle.slots.specs.Table.{slotOf, windowOf, countersOf, entryOf, settled, restored, raised, slotLength, slotCount, tableLength, replaysAt, spareAt, keyDataOf};
 ghost use Rattle.slots.specs.Record.{undamaged};
 use crate::layout;
 use format::key_data;
 use format::key_data::Terms;
+use window::Counters;
 use window::Frame;
 use window::Window;
 
@@ -38,18 +39,38 @@ pub fn window_in(slot: &[u8]) -> Window
     }
 }
 
+// The counters that a slot holds.
+fn counters_in(slot: &[u8]) -> Counters
+    requires { ⌜ length (now slot) ≡ slotLength ⌝ }
+    ensures { λ r. ⌜ r ≡ countersOf (now (slot .entry)) ⌝ }
+{
+    Counters {
+        replays: octets::read(slot, layout::REPLAYS, 8),
+        forged: octets::read(slot, layout::FORGED, 8),
+    }
+}
+
 // Whether the damage rule finds nothing in a slot.
 pub fn is_undamaged(slot: &[u8]) -> bool
     requires { ⌜ length (now slot) ≡ slotLength ⌝ }
     ensures { λ r. ⌜ r ≡ undamaged (now (slot .entry)) ⌝ }
 {
+    let window = window_in(slot);
+    is_undamaged_by(slot, window)
+}
+
+// The same where its window has been read.
+pub fn is_undamaged_by(slot: &[u8], window: Window) -> bool
+    requires { ⌜ (length (now slot) ≡ slotLength) × (viewOf window ≡ windowOf (now slot)) ⌝ }
+    ensures { λ r. ⌜ r ≡ undamaged (now (slot .entry)) ⌝ }
+{
     if !is_sound(slot) {
         return false;
     }
-    let window = window_in(slot);
     let accepted = octets::read(slot, layout::ACCEPTED, 8);
     let bytes = octets::read(slot, layout::BYTES, 8);
-    window::undamaged_entry(window, accepted, bytes)
+    let counters = counters_in(slot);
+    window::undamaged_entry(window, accepted, bytes, counters)
 }
 
 // Whether a slot's key data is sound.
@@ -87,10 +108,38 @@ pub fn take(table: &mut [u8], slot: usize, window: Window, number: u64, payload:
     settle(table, slot, window.accept(number), accepted, bytes);
 }
 
-// The window and the totals of an entry are written into its slot.
-pub fn settle(table: &mut [u8], slot: usize, window: Window, accepted: u64, bytes: u64)
+// One refusal more in a counter of the entry in a slot: the one that stands at that place of it.
+pub fn raise(table: &mut [u8], slot: usize, counter: usize)
+    requires { ⌜ (length (now table) ≡ tableLength) × (slot < slotCount) × (replaysAt ≤ counter) × (counter + 8 ≤ spareAt) ⌝ }
+    ensures { λ _. ⌜ now (table .exit) ≡ raised (now (table .entry)) slot counter ⌝ }
+{
+    let at = layout::SLOT * slot + counter;
+    let refused = octets::read(table, at, 8);
+    octets::write(table, at, 8, window::one_more(refused));
+}
+
+// The window, the totals and the counters of an entry are written into its slot.
+pub fn restore(
+    table: &mut [u8],
+    slot: usize,
+    window: Window,
+    accepted: u64,
+    bytes: u64,
+    counters: Counters,
+)
     requires { ⌜ (length (now table) ≡ tableLength) × (slot < slotCount) ⌝ }
-    ensures { λ _. ⌜ now (table .exit) ≡ settled (now (table .entry)) slot (record { window = viewOf window; accepted = accepted; bytes = bytes }) ⌝ }
+    ensures { λ _. ⌜ now (table .exit) ≡ restored (now (table .entry)) slot (record { window = viewOf window; accepted = accepted; bytes = bytes; counters = counters }) ⌝ }
+{
+    let at = layout::SLOT * slot;
+    settle(table, slot, window, accepted, bytes);
+    octets::write(table, at + layout::REPLAYS, 8, counters.replays);
+    octets::write(table, at + layout::FORGED, 8, counters.forged);
+}
+
+// The window and the totals of an entry are written into its slot; its counters stay.
+fn settle(table: &mut [u8], slot: usize, window: Window, accepted: u64, bytes: u64)
+    requires { ⌜ (length (now table) ≡ tableLength) × (slot < slotCount) ⌝ }
+    ensures { λ _. ⌜ now (table .exit) ≡ settled (now (table .entry)) slot (record { window = viewOf window; accepted = accepted; bytes = bytes; counters = countersOf (slotOf (now (table .entry)) slot) }) ⌝ }
 {
     let at = layout::SLOT * slot;
     let marks = window.marks;

@@ -12,6 +12,7 @@ use Rattle.numbers.proofs.Tests.{and-left, and-right, and-both, refuted}
 use Rattle.window.specs.declared.Verdict.the-variants.{Admissible}
 use Rattle.window.specs.Window.{View, soundFrame, floorOf, verdictOf, countOf, undamagedWindow}
 use Rattle.window.specs.declared.Frame.{Frame}
+use Rattle.window.specs.Counters.{counterLimit}
 use Rattle.window.specs.Entry.{Entry, freshEntry, taken, undamagedEntry, longestPayload}
 use Rattle.window.proofs.Undamaged.{marks-small, undamaged-facts, undamaged-test, takes, accept-undamaged, accept-count, fresh-undamaged}
 
@@ -21,6 +22,8 @@ pub record UndamagedEntry (e : Entry) : Type 0 where
   pub enough : countOf (e .window) ≤ e .accepted
   pub few : e .accepted ≤ countOf (e .window) + floorOf (e .window) - e .window .frame .start
   pub light : e .bytes ≤ longestPayload * e .accepted
+  pub few-replays : e .counters .replays ≤ counterLimit
+  pub few-forged : e .counters .forged ≤ counterLimit
 
 pub entry-facts : (e : Entry) → undamagedEntry e ≡ true → UndamagedEntry e
 unfolding undamagedEntry
@@ -45,6 +48,8 @@ fresh-entry-undamaged f h = record {
   enough = omega arith;
   few = omega arith;
   light = omega arith;
+  few-replays = omega arith;
+  few-forged = omega arith;
 }
 
 -- "These bounds keep both totals within 64 bits."
@@ -57,6 +62,8 @@ taken-undamaged e n payload w v small short =
       enough = omega (arith, w .enough);
       few = omega (arith, w .few, floor-start (e .window .frame) (e .window .highest));
       light = omega (arith, w .light);
+      few-replays = w .few-replays;
+      few-forged = w .few-forged;
     }
 
 -- ---- how small the rule keeps its numbers

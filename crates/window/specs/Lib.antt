@@ -1,2 +1,3 @@
+pub mod Counters
 pub mod Entry
 pub mod Window

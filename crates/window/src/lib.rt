@@ -4,6 +4,7 @@ ghost use mathlib.Core.Bool.{true};
 ghost use Prim.Native.Nat.{_+_, _-_, _≤_, min, max};
 ghost use Rattle.window.specs.declared.Verdict.the-variants.{Admissible};
 ghost use Rattle.window.specs.Window.{viewOf, floorOf, verdictOf, acceptOf, countOf, soundFrame, undamagedWindow};
+ghost use Rattle.window.specs.Counters.{oneMore};
 ghost use Rattle.window.specs.Entry.{undamagedEntry};
 
 // The greatest number that a message can have: 2^48 - 1.
@@ -15,10 +16,19 @@ const LARGEST_SIZE: u64 = 256;
 // The most bytes that a payload can have.
 const LONGEST_PAYLOAD: u64 = 2034;
 
+// Where a counter of refused arrivals stops: 2^32 - 1.
+const COUNTER_LIMIT: u64 = 4294967295;
+
 // What an install settles of a window: its Size, and the start below which no number is taken.
 pub struct Frame {
     pub size: u64,
     pub start: u64,
+}
+
+// How many arrivals an entry refused: with 9 or 10, and with 11.
+pub struct Counters {
+    pub replays: u64,
+    pub forged: u64,
 }
 
 // The frame, the highest number, and the marks: four words, the lowest first. The bit of value 2^i of the whole stands for highest - i.
@@ -148,9 +158,9 @@ pub fn sound_frame(frame: Frame) -> bool
     true
 }
 
-// Whether the damage rule finds nothing in a window and the totals beside it.
-pub fn undamaged_entry(window: Window, accepted: u64, bytes: u64) -> bool
-    ensures { λ r. ⌜ r ≡ undamagedEntry (record { window = viewOf window; accepted = accepted; bytes = bytes }) ⌝ }
+// Whether the damage rule finds nothing in a window and the totals and counters beside it.
+pub fn undamaged_entry(window: Window, accepted: u64, bytes: u64, counters: Counters) -> bool
+    ensures { λ r. ⌜ r ≡ undamagedEntry (record { window = viewOf window; accepted = accepted; bytes = bytes; counters = counters }) ⌝ }
 {
     if !window.undamaged() {
         return false;
@@ -166,7 +176,24 @@ pub fn undamaged_entry(window: Window, accepted: u64, bytes: u64) -> bool
     if LONGEST_PAYLOAD * accepted < bytes {
         return false;
     }
+    if COUNTER_LIMIT < counters.replays {
+        return false;
+    }
+    if COUNTER_LIMIT < counters.forged {
+        return false;
+    }
     true
+}
+
+// A counter with one refusal more; at its limit it stays.
+pub fn one_more(counter: u64) -> u64
+    ensures { λ r. ⌜ r ≡ oneMore counter ⌝ }
+{
+    if counter < COUNTER_LIMIT {
+        counter + 1
+    } else {
+        COUNTER_LIMIT
+    }
 }
 
 // The larger of two numbers.

@@ -20,7 +20,7 @@ returns c =
     let w =
     moved-written (a .slot .now) (start .pre .0) (λ i. first .before .before .before .before .before .shared-slice-known .given i .fits) (a .out .now) (a .at) (omega (arith, start .pre))
     (record { ends = e₁ .0 .0; is = e₁ .1 }) (record { ends = e₂ .0 .0; is = e₂ .1 }) (third .before .before .read .ensures .0) (record { ends = e₃ .0 .0; is = e₃ .1 }) (fourth .before .before .read2 .ensures .0) (record { ends = e₄ .0 .0; is = e₄ .1 }) in
-    (w .ends, w .is)
+    ((w .ends, omega (arith, e₁ .0 .1, e₂ .0 .1, e₃ .0 .1, e₄ .0 .1, start .pre)), w .is)
 
 pub write-moved-spec : {M : Type 1} → statement M
 write-moved-spec =

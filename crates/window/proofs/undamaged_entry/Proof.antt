@@ -17,11 +17,11 @@ undamaged c = sym (c .before .undamaged .ensures) ∙ not-false _ (c .if1 .left)
 sub-if3 : tie.Need-sub-if3
 sub-if3 c = let w = c .before .before .before .before .before .args .window in omega (arith, floor-start (w .frame) (w .highest))
 
-returns-5 : tie.Need-returns-5
-returns-5 c =
+returns-7 : tie.Need-returns-7
+returns-7 c =
     sym
     (entry-test _
-    (record { window = undamaged (c .before .before .before .before .before); enough = omega arith; few = omega arith; light = omega arith }))
+    (record { window = undamaged (c .before .before .before .before .before .before .before .before .before); enough = omega arith; few = omega arith; light = omega arith; few-replays = omega arith; few-forged = omega arith }))
 
 pub undamaged-entry-spec : {M : Type 1} → statement M
 undamaged-entry-spec =
@@ -37,4 +37,6 @@ undamaged-entry-spec =
     (λ c. entry-damaged _ (λ w. omega (arith, w .few)))
     (λ c. let f = floor-small _ (undamaged (c .before .before .before .before)) in omega arith)
     (λ c. entry-damaged _ (λ w. omega (arith, w .light)))
-    returns-5)
+    (λ c. entry-damaged _ (λ w. omega (arith, w .few-replays)))
+    (λ c. entry-damaged _ (λ w. omega (arith, w .few-forged)))
+    returns-7)
