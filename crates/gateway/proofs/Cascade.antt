@@ -27,47 +27,51 @@ use Rattle.format.proofs.Suites.{icv-least}
 use Rattle.window.specs.Entry.{taken}
 use Rattle.lookup.specs.Lookup.{leadsTo}
 use Rattle.lookup.proofs.Firsts.{leads-small}
-use Rattle.slots.proofs.Replacing.{length-replaced}
-use Rattle.slots.proofs.Settled.{settledSlot, length-slot, as-replaced}
-use Rattle.gateway.specs.Receive.{Received, received, parsed, led, arrived, judged, checked, unsealed, handedOut, kept}
+use Rattle.slots.proofs.Rewriting.{raised-rewritten, rewritten-length}
+use Rattle.slots.proofs.Settled.{settled-rewritten}
+use Rattle.gateway.specs.Receive.{Received, received, parsed, led, arrived, judged, checked, unsealed, handedOut, kept, counterOf, turnedAway}
 use Rattle.slots.specs.Record.{undamaged}
 use Rattle.slots.specs.Table.{slotOf, entryOf, csOf, windowOf, tableLength, keyDataOf}
 use Rattle.lookup.specs.declared.Found.{Found}
 use Rattle.lookup.specs.declared.Found.the-variants.{At, Nothing}
-use Rattle.gateway.proofs.Arrivals.{Led}
+use Rattle.gateway.proofs.Arrivals.{Led, counter-within}
 
 module _ (P : Received → Type 0) (t out : List ℕ) where
   -- at a slot
-  module _ (i : ℕ) (h : Header) (m : List ℕ) (done : P (handedOut (payloadLength h m) t i h m out)) where
-    by-verdict : ((n : ℕ) → 8 ≤ n → n < 100 → P (kept t out n)) → (v : Verdict) → P (judged v t i h m out)
+  module _ (i : ℕ) (h : Header) (m : List ℕ) (turned : (n : ℕ) → 9 ≤ n → n ≤ 11 → P (turnedAway t i out n)) (done : P (handedOut (payloadLength h m) t i h m out)) where
+    by-verdict : (v : Verdict) → P (judged v t i h m out)
     unfolding checked
-    by-verdict refused Below = refused belowFloor (lit≤ tt) (lit< tt)
-    by-verdict refused Marked = refused repeated (lit≤ tt) (lit< tt)
-    by-verdict refused Admissible = by-icv (right h (keyDataOf (slotOf t i)) m)
+    by-verdict Below = turned belowFloor (lit≤ tt) (lit≤ tt)
+    by-verdict Marked = turned repeated (lit≤ tt) (lit≤ tt)
+    by-verdict Admissible = by-icv (right h (keyDataOf (slotOf t i)) m)
       where
         by-icv : (icv : Bool) → P (unsealed (cond icv (Payload (payloadLength h m)) Wrong) t i h m out)
         by-icv true = done
-        by-icv false = refused wrongIcv (lit≤ tt) (lit< tt)
+        by-icv false = turned wrongIcv (lit≤ tt) (lit≤ tt)
 
     -- that is undamaged
-    pub of-undamaged : ((n : ℕ) → 8 ≤ n → n < 100 → P (kept t out n))
+    pub of-undamaged : P (kept t out otherSuite)
         → P (cond (eqb (csOf (slotOf t i)) (numberOf (h .suite))) (judged (verdictOf (windowOf (slotOf t i)) (h .seqnum)) t i h m out) (kept t out otherSuite))
     of-undamaged refused =
         either P (eqb (csOf (slotOf t i)) (numberOf (h .suite))) (judged (verdictOf (windowOf (slotOf t i)) (h .seqnum)) t i h m out) (kept t out otherSuite)
-        (λ _. by-verdict refused (verdictOf (windowOf (slotOf t i)) (h .seqnum))) (λ _. refused otherSuite (lit≤ tt) (lit< tt))
+        (λ _. by-verdict (verdictOf (windowOf (slotOf t i)) (h .seqnum))) (λ _. refused)
 
-  module _ (refused : (n : ℕ) → 1 ≤ n → n < 100 → P (kept t out n)) where
+  module _ (refused : (n : ℕ) → 1 ≤ n → n < 9 → P (kept t out n)) where
     -- or not
-    pub of-arrived : (i : ℕ) (h : Header) (m : List ℕ) → (undamaged (slotOf t i) ≡ true → P (handedOut (payloadLength h m) t i h m out)) → P (arrived t i h m out)
+    pub of-arrived : (i : ℕ) (h : Header) (m : List ℕ) → (undamaged (slotOf t i) ≡ true → (n : ℕ) → 9 ≤ n → n ≤ 11 → P (turnedAway t i out n))
+        → (undamaged (slotOf t i) ≡ true → P (handedOut (payloadLength h m) t i h m out)) → P (arrived t i h m out)
     unfolding arrived
-    of-arrived i h m done =
-        either P (undamaged (slotOf t i)) _ (kept t out damaged) (λ unharmed. of-undamaged i h m (done unharmed) (λ n least small. refused n (omega arith) small)) (λ _. refused damaged (lit≤ tt) (lit< tt))
+    of-arrived i h m turned done =
+        either P (undamaged (slotOf t i)) _ (kept t out damaged) (λ unharmed. of-undamaged i h m (turned unharmed) (done unharmed) (refused otherSuite (lit≤ tt) (lit< tt)))
+        (λ _. refused damaged (lit≤ tt) (lit< tt))
 
-    module _ (m source : List ℕ) (done : (h : Header) (i : ℕ) → Led t m source out h i → undamaged (slotOf t i) ≡ true → P (handedOut (payloadLength h m) t i h m out)) where
+    module _ (m source : List ℕ)
+        (turned : (h : Header) (i : ℕ) → Led t m source out h i → undamaged (slotOf t i) ≡ true → (n : ℕ) → 9 ≤ n → n ≤ 11 → P (turnedAway t i out n))
+        (done : (h : Header) (i : ℕ) → Led t m source out h i → undamaged (slotOf t i) ≡ true → P (handedOut (payloadLength h m) t i h m out)) where
       module _ (room : outputRoom ≤ length out) where
         of-led : (h : Header) → readOf m ≡ Read h → (f : Found) → leadsTo t (h .flag) (keyIdBytes h m) source ≡ f → P (led f t h m out)
         of-led h read Nothing l = refused noEntry (lit≤ tt) (lit< tt)
-        of-led h read (At i) l = of-arrived i h m (done h i (record { room = room; read = read; found = l }))
+        of-led h read (At i) l = let there : Led t m source out h i = record { room = room; read = read; found = l } in of-arrived i h m (turned h i there) (done h i there)
 
         of-parsed : (p : Parsed) → readOf m ≡ p → P (parsed p t m source out)
         of-parsed (Read h) e = of-led h e (leadsTo t (h .flag) (keyIdBytes h m) source) refl
@@ -89,7 +93,8 @@ pub record NotSeven (r : Received) : Type 0 where
 pub never-seven : (t : List ℕ) (i : ℕ) (h : Header) (m out : List ℕ) → undamaged (slotOf t i) ≡ true → NotSeven (arrived t i h m out)
 unfolding arrived handedOut
 never-seven t i h m out unharmed =
-    rw unharmed (of-undamaged NotSeven t out i h m (record { other = λ z. omega arith }) (λ n least small. record { other = λ z. omega arith }))
+    rw unharmed
+    (of-undamaged NotSeven t out i h m (λ n least most. record { other = λ z. omega arith }) (record { other = λ z. omega arith }) (record { other = λ z. omega arith }))
 
 -- ---- the table stays as long as it was
 
@@ -100,10 +105,13 @@ pub received-length : (t : List ℕ) → length t ≡ tableLength → (m source 
 unfolding handedOut
 received-length t long m source out =
     of-received Long t out (λ n some small. record { is = long }) m source
+    (λ h i l unharmed n least most.
+    let small = leads-small t i (h .flag) (keyIdBytes h m) source (l .found) in
+    let within = counter-within n in
+    record { is = rewritten-length t i long small (raised-rewritten t i long small (counterOf n) (within .0) (within .1)) })
     (λ h i l unharmed.
     let small = leads-small t i (h .flag) (keyIdBytes h m) source (l .found) in
-    let e = taken (entryOf (slotOf t i)) (h .seqnum) (payloadLength h m) in
-    record { is = ap length (as-replaced t i e long small) ∙ length-replaced t i (settledSlot t i e long small) long small (length-slot t i e long small) })
+    record { is = rewritten-length t i long small (settled-rewritten t i (taken (entryOf (slotOf t i)) (h .seqnum) (payloadLength h m)) long small) })
     .is
 
 -- ---- what is answered
@@ -119,7 +127,8 @@ pub record Brief (m : List ℕ) (r : Received) : Type 0 where
 pub received-brief : (t m source out : List ℕ) → Brief m (received t m source out)
 unfolding handedOut
 received-brief t m source out =
-    of-received (Brief m) t out (λ n some small. record { listed = small; short = omega arith; fits = omega arith; silent = λ no. refl }) m source
+    of-received (Brief m) t out (λ n some small. record { listed = omega arith; short = omega arith; fits = omega arith; silent = λ no. refl }) m source
+    (λ h i l unharmed n least most. record { listed = omega arith; short = omega arith; fits = omega arith; silent = λ no. refl })
     (λ h i l unharmed.
     let room = read-room m (l .read) in
     record { listed = lit< tt; short = omega (arith, icv-least (h .suite), length-least (h .keyid)); fits = omega (arith, payload-most room); silent = λ no. absurd (no refl) })

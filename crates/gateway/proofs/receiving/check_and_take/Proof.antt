@@ -38,15 +38,16 @@ edition-there s = sym (slot-byte (s .args .table .now) (s .args .slot) editionAt
 
 returns : tie.Need-returns
 returns c =
-    let place = c .before .before .before .before .before in
+    let away = c .before .before in
+    let place = away .before .before .before .before .before .before in
     let s = start place in
     let a = s .args in
     let p = s .pre .0 in
     let opened = place .«open» .ensures in
     leaves-wrong (a .table .now) (a .slot) (a .read) (a .message .now) (a .out .now) (edition-there s)
     (key-lent (a .table .now) (a .slot) (p .0) (p .1)) (source-lent (a .table .now) (a .slot) (p .0) (p .1) (s .pre .1 .0)) (opened .0) (opened .1)
-    (c .before .enum-told .given .1)
-    (c .refuse .ensures)
+    (away .before .before .enum-told .given .1)
+    (away .turn-away .ensures)
 
 take-requires : tie.Need-take-requires
 take-requires c κs =
