@@ -1,5 +1,5 @@
--- Four readings in a row, each in the text that the one before it left: the first that fails decides, and where all succeed, so do their values. What
--- four lines print is read so, and what was read is what they print.
+-- Two readings in a row, or four, each in the text that the one before it left: the first that fails decides, and where all succeed, so do their values.
+-- What two or four lines print is read so, and what was read is what they print.
 -- Assumes nothing.
 use mathlib.Core.Path.{_≡_, sym, ap, _∙_}
 use mathlib.Core.List.{List, _++_, append-assoc}
@@ -29,6 +29,21 @@ module _ {A B C D E : Type 0} (a : List ℕ → Read A) (b : List ℕ → Read B
 
           pub all-four : {z : D} {l₄ : List ℕ} → d l₃ ≡ got z l₄ → four text ≡ got (f w x y z) l₄
           all-four e₄ = rw (e₁, e₂, e₃, e₄)
+
+module _ {A B E : Type 0} (a : List ℕ → Read A) (b : List ℕ → Read B) (f : A → B → E) where
+  abbrev pub two : List ℕ → Read E
+  two text = andThen (a text) λ w l₁. andThen (b l₁) λ x l₂. got (f w x) l₂
+
+  module _ (text : List ℕ) where
+    pub one-fails : a text ≡ failed → two text ≡ failed
+    one-fails n = rw n
+
+    module _ {w : A} {l₁ : List ℕ} (e₁ : a text ≡ got w l₁) where
+      pub other-fails : b l₁ ≡ failed → two text ≡ failed
+      other-fails n = rw (e₁, n)
+
+      pub both-got : {x : B} {l₂ : List ℕ} → b l₁ ≡ got x l₂ → two text ≡ got (f w x) l₂
+      both-got e₂ = rw (e₁, e₂)
 
 -- ---- what is printed is read, and what was read was printed
 
@@ -87,3 +102,39 @@ module _ {A B C D E : Type 0} (a : Line A) (b : Line B) (c : Line C) (d : Line D
             ∙ ap (λ (m : List ℕ). b .print (q .value) ++ m) (k (q .left) (r .value) (r .left) (r .is) ∙ ap (λ (m : List ℕ). c .print (r .value) ++ m) last))
             ∙ sym (behind (p .value) (q .value) (r .value) (s .value) rest);
       }
+
+module _ {A B E : Type 0} (a : Line A) (b : Line B) (f : A → B → E) where
+  abbrev pair : List ℕ → Read E
+  pair = two (a .read) (b .read) f
+
+  pub two-reads : (w : A) (x : B) → Reads a w → Reads b x → (rest : List ℕ) → pair (a .print w ++ b .print x ++ rest) ≡ got (f w x) rest
+  two-reads w x i j rest =
+      ap pair (append-assoc (a .print w) (b .print x) rest) ∙ both-got (a .read) (b .read) f (a .print w ++ (b .print x ++ rest)) (i (b .print x ++ rest)) (j rest)
+
+  -- the two values, and the text that they were printed as
+  pub record Both (text : List ℕ) (value : E) (rest : List ℕ) : Type 0 where
+    pub w : A
+    pub x : B
+    pub left : List ℕ
+    pub first : a .read text ≡ got w left
+    pub second : b .read left ≡ got x rest
+    pub made : f w x ≡ value
+
+  pub two-got : (text : List ℕ) (value : E) (rest : List ℕ) → pair text ≡ got value rest → Both text value rest
+  two-got text value rest e =
+      let p = through (a .read text) _ value rest e in
+      let q = through (b .read (p .left)) _ value rest (p .next) in
+      record {
+        w = p .value;
+        x = q .value;
+        left = p .left;
+        first = p .is;
+        second = q .is ∙ ap (got (q .value)) (got-rest (q .next));
+        made = got-value (q .next);
+      }
+
+  pub two-was : Prints a → Prints b → (text : List ℕ) (value : E) (rest : List ℕ) → pair text ≡ got value rest
+      → (both : Both text value rest) × (text ≡ a .print (both .w) ++ b .print (both .x) ++ rest)
+  two-was i j text value rest e =
+      let q = two-got text value rest e in
+      (q, i text (q .w) (q .left) (q .first) ∙ ap (λ (m : List ℕ). a .print (q .w) ++ m) (j (q .left) (q .x) rest (q .second)) ∙ sym (append-assoc (a .print (q .w)) (b .print (q .x)) rest))

@@ -5,15 +5,16 @@ use mathlib.Core.List.{List}
 use Prim.Native.Nat.{ℕ, _≤_}
 use lib.ListN.{length, drop}
 use Rattle.text.specs.Reading.{failed, got}
-use Rattle.form.specs.Form.{readSettled, readMoved}
-use Rattle.form.specs.Found.{settledValues, movedValues, NamedWithin, MovedWithin, FindsSettled, FindsMoved, placeOf, LinesFound}
+use Rattle.window.specs.declared.Counters.{Counters}
+use Rattle.form.specs.Form.{readSettled, readArrivals}
+use Rattle.form.specs.Found.{settledValues, arrivalValues, NamedWithin, MovedWithin, FindsSettled, FindsArrivals, placeOf, LinesFound}
 use Rattle.form.specs.declared.lines.NamedLines.{NamedLines}
 use Rattle.form.specs.declared.lines.TermLines.{TermLines}
 use Rattle.form.specs.declared.lines.MovedLines.{MovedLines}
 use Rattle.form.specs.declared.lines.Settled.{Settled}
 use Rattle.form.specs.declared.lines.Settled.the-variants as settled
-use Rattle.form.specs.declared.lines.Moved.{Moved}
-use Rattle.form.specs.declared.lines.Moved.the-variants as moved
+use Rattle.form.specs.declared.lines.Arrivals.{Arrivals}
+use Rattle.form.specs.declared.lines.Arrivals.the-variants as arrivals
 use Rattle.form.specs.declared.reader.Lines.{Lines}
 
 module _ (text : List ℕ) (r : Lines) (found : LinesFound text r) where
@@ -24,12 +25,12 @@ module _ (text : List ℕ) (r : Lines) (found : LinesFound text r) where
     pub first-is : (readSettled text ≡ got (settledValues text v w) (drop next text)) × NamedWithin text v
     first-is = subst (λ (x : Settled). FindsSettled text (readSettled text) x) e (found .settled)
 
-    behind : FindsMoved text (readMoved (drop next text)) (r .moved)
-    behind = subst (λ (x : Settled). FindsMoved text (readMoved (drop (placeOf x) text)) (r .moved)) e (found .moved)
+    behind : FindsArrivals text (readArrivals (drop next text)) (r .arrivals)
+    behind = subst (λ (x : Settled). FindsArrivals text (readArrivals (drop (placeOf x) text)) (r .arrivals)) e (found .arrivals)
 
-    pub second-bad : r .moved ≡ moved.Bad → readMoved (drop next text) ≡ failed
-    second-bad f = subst (λ (y : Moved). FindsMoved text (readMoved (drop next text)) y) f behind
+    pub second-bad : r .arrivals ≡ arrivals.Bad → readArrivals (drop next text) ≡ failed
+    second-bad f = subst (λ (y : Arrivals). FindsArrivals text (readArrivals (drop next text)) y) f behind
 
-    pub second-is : (m : MovedLines) (end : ℕ) → r .moved ≡ moved.Is m end
-        → (readMoved (drop next text) ≡ got (movedValues text m) (drop end text)) × (end ≤ length text) × MovedWithin text m
-    second-is m end f = subst (λ (y : Moved). FindsMoved text (readMoved (drop next text)) y) f behind
+    pub second-is : (m : MovedLines) (c : Counters) (end : ℕ) → r .arrivals ≡ arrivals.Is m c end
+        → (readArrivals (drop next text) ≡ got (arrivalValues text m c) (drop end text)) × (end ≤ length text) × MovedWithin text m
+    second-is m c end f = subst (λ (y : Arrivals). FindsArrivals text (readArrivals (drop next text)) y) f behind

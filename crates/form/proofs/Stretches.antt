@@ -1,4 +1,5 @@
--- The stretches of a listing as readings in a row: each of four lines, what an install settled of two of them, and the text of that and the last.
+-- The stretches of a listing as readings in a row: each of four lines or of two, what an install settled of two stretches, what is by the arrivals of two,
+-- and the text of both.
 -- Assumes nothing.
 use mathlib.Core.Path.{_≡_, refl, subst}
 use mathlib.Core.List.{List, []}
@@ -12,10 +13,11 @@ use Rattle.text.specs.Reading.{Read, failed, got, readDecimalLine, readHexLine,
 use Rattle.text.specs.Found.{FindsNumber, FindsSpan}
 use Rattle.text.specs.declared.reading.Number.{Number}
 use Rattle.text.specs.declared.reading.Span.{Span}
-use Rattle.listing.specs.Listing.{slotName, flagName, keyIdName, sourceName, suiteName, editionName, sizeName, startName, highestName, marksName, acceptedName, bytesName}
-use Rattle.form.specs.Form.{NamedValues, SettledValues, MovedValues, readNamed, readTerms, readSettled, readMoved, listingIn}
+use Rattle.window.specs.declared.Counters.{Counters}
+use Rattle.listing.specs.Listing.{slotName, flagName, keyIdName, sourceName, suiteName, editionName, sizeName, startName, highestName, marksName, acceptedName, bytesName, replaysName, forgedName}
+use Rattle.form.specs.Form.{NamedValues, SettledValues, MovedValues, ArrivalValues, readNamed, readTerms, readSettled, readMoved, readCounters, readArrivals, listingIn}
 use Rattle.form.specs.declared.lines.TermLines.{TermLines}
-use Rattle.form.proofs.Chains.{four}
+use Rattle.form.proofs.Chains.{four, two}
 
 -- what is found, by the case of the answer
 pub number-by : (text : List ℕ) (o : Read ℕ) {a b : Number} → a ≡ b → FindsNumber text o a → FindsNumber text o b
@@ -62,6 +64,12 @@ accepted-line = readDecimalLine acceptedName
 abbrev pub bytes-line : List ℕ → Read ℕ
 bytes-line = readDecimalLine bytesName
 
+abbrev pub replays-line : List ℕ → Read ℕ
+replays-line = readDecimalLine replaysName
+
+abbrev pub forged-line : List ℕ → Read ℕ
+forged-line = readDecimalLine forgedName
+
 -- ---- four lines each
 
 abbrev pub named-of : ℕ → ℕ → List ℕ → List ℕ → NamedValues
@@ -87,6 +95,29 @@ pub moved-four : (l : List ℕ)
 unfolding readMoved
 moved-four l = refl
 
+-- ---- two each
+
+abbrev pub counters-of : ℕ → ℕ → Counters
+counters-of replays forged = record { replays = replays; forged = forged }
+
+abbrev pub settled-of : NamedValues → TermLines → SettledValues
+settled-of named terms = record { named = named; terms = terms }
+
+abbrev pub arrivals-of : MovedValues → Counters → ArrivalValues
+arrivals-of moved counters = record { moved = moved; counters = counters }
+
+pub counters-two : (l : List ℕ) → readCounters l ≡ two replays-line forged-line counters-of l
+unfolding readCounters
+counters-two l = refl
+
+pub settled-two : (l : List ℕ) → readSettled l ≡ two readNamed readTerms settled-of l
+unfolding readSettled
+settled-two l = refl
+
+pub arrivals-two : (l : List ℕ) → readArrivals l ≡ two readMoved readCounters arrivals-of l
+unfolding readArrivals
+arrivals-two l = refl
+
 -- none in a text that has ended
 pub named-past : (text : List ℕ) (at : ℕ) → length text ≤ at → readNamed (drop at text) ≡ failed
 unfolding readNamed readDecimalLine same
@@ -96,22 +127,6 @@ pub moved-past : (text : List ℕ) (at : ℕ) → length text ≤ at → readMov
 unfolding readMoved readNumberLine readBytesLine readHexLine same
 moved-past text at h = rw (drop-of-length-le text {i = at} h)
 
--- ---- what an install settled
-
-module _ (l : List ℕ) where
-  pub no-named : readNamed l ≡ failed → readSettled l ≡ failed
-  unfolding readSettled
-  no-named n = rw n
-
-  module _ {v : NamedValues} {l₁ : List ℕ} (e : readNamed l ≡ got v l₁) where
-    pub no-terms : readTerms l₁ ≡ failed → readSettled l ≡ failed
-    unfolding readSettled
-    no-terms n = rw (e, n)
-
-    pub both-settled : {w : TermLines} {l₂ : List ℕ} → readTerms l₁ ≡ got w l₂ → readSettled l ≡ got (record { named = v; terms = w }) l₂
-    unfolding readSettled
-    both-settled f = rw (e, f)
-
 -- ---- the text
 
 module _ (text : List ℕ) where
@@ -120,18 +135,18 @@ module _ (text : List ℕ) where
   no-settled e = rw e
 
   module _ {v : SettledValues} {l : List ℕ} (e : readSettled text ≡ got v l) where
-    pub no-moved : readMoved l ≡ failed → listingIn text ≡ none
+    pub no-arrivals : readArrivals l ≡ failed → listingIn text ≡ none
     unfolding listingIn
-    no-moved f = rw (e, f)
+    no-arrivals f = rw (e, f)
 
-    pub text-read : {m : MovedValues} → readMoved l ≡ got m [] → listingIn text ≡ some (record { settled = v; moved = m })
+    pub text-read : {a : ArrivalValues} → readArrivals l ≡ got a [] → listingIn text ≡ some (record { settled = v; arrivals = a })
     unfolding listingIn
     text-read f = rw (e, f)
 
-    module _ {m : MovedValues} (end : ℕ) (f : readMoved l ≡ got m (drop end text)) where
+    module _ {a : ArrivalValues} (end : ℕ) (f : readArrivals l ≡ got a (drop end text)) where
       pub more-behind : end ≤ length text → (end ≡ length text → ⊥) → listingIn text ≡ none
       unfolding listingIn
       more-behind h other = rw (e, f, drop-cons text end 0 (omega arith))
 
-      pub all-read : length text ≤ end → listingIn text ≡ some (record { settled = v; moved = m })
+      pub all-read : length text ≤ end → listingIn text ≡ some (record { settled = v; arrivals = a })
       all-read h = text-read (rw (drop-of-length-le text {i = end} h) at f)

@@ -1,12 +1,14 @@
 -- The text that a load reads (02, No. 6): "the entry part of 01's listing, from `slot=` to `bytes=`, as input, strictly in the printed order, each line
 -- ended by a line feed, no spaces, no leading zeros in decimals, no decimal over 2^64 − 1, hex as printed (`highest` 12 digits, `marks` 64, `keyid` and
--- `source` any even count, 0 too)." The names of the lines are the listing's own.
+-- `source` any even count, 0 too)." No. 8: "The listing ends with `replays=` and `forged=`, in decimal, and loading takes them over." The names of the lines
+-- are the listing's own.
 use mathlib.Core.List.{List, [], _∷_}
 use mathlib.Core.Option.{Option, none, some}
 use Prim.Native.Nat.{ℕ}
 use Rattle.octets.specs.Octets.{bigEndian}
 use Rattle.text.specs.Reading.{Read, failed, got, andThen, readDecimalLine, readHexLine, readBytesLine, readNumberLine}
-use Rattle.listing.specs.Listing.{slotName, flagName, keyIdName, sourceName, suiteName, editionName, sizeName, startName, highestName, marksName, acceptedName, bytesName}
+use Rattle.window.specs.declared.Counters.{Counters}
+use Rattle.listing.specs.Listing.{slotName, flagName, keyIdName, sourceName, suiteName, editionName, sizeName, startName, highestName, marksName, acceptedName, bytesName, replaysName, forgedName}
 use Rattle.form.specs.declared.lines.TermLines.{TermLines}
 
 -- which entry it is
@@ -21,16 +23,21 @@ pub record SettledValues : Type 0 where
   pub named : NamedValues
   pub terms : TermLines
 
--- what the arrivals moved
+-- what the arrivals moved that were handed out
 pub record MovedValues : Type 0 where
   pub highest : ℕ
   pub marks : ℕ
   pub accepted : ℕ
   pub bytes : ℕ
 
+-- with how many were turned away
+pub record ArrivalValues : Type 0 where
+  pub moved : MovedValues
+  pub counters : Counters
+
 pub record Listing : Type 0 where
   pub settled : SettledValues
-  pub moved : MovedValues
+  pub arrivals : ArrivalValues
 
 -- ---- line by line
 
@@ -65,6 +72,18 @@ readMoved text =
     andThen (readDecimalLine bytesName l₃) λ bytes l₄.
     got (record { highest = highest; marks = bigEndian 32 marks; accepted = accepted; bytes = bytes }) l₄
 
+unfoldable pub readCounters : List ℕ → Read Counters
+readCounters text =
+    andThen (readDecimalLine replaysName text) λ replays l₁.
+    andThen (readDecimalLine forgedName l₁) λ forged l₂.
+    got (record { replays = replays; forged = forged }) l₂
+
+unfoldable pub readArrivals : List ℕ → Read ArrivalValues
+readArrivals text =
+    andThen (readMoved text) λ moved l₁.
+    andThen (readCounters l₁) λ counters l₂.
+    got (record { moved = moved; counters = counters }) l₂
+
 -- ---- the text
 
 -- nothing stands behind the last line
@@ -75,4 +94,4 @@ atEnd (got listing (c ∷ left)) = none
 
 unfoldable pub listingIn : List ℕ → Option Listing
 listingIn text =
-    atEnd (andThen (readSettled text) λ settled l₁. andThen (readMoved l₁) λ moved l₂. got (record { settled = settled; moved = moved }) l₂)
+    atEnd (andThen (readSettled text) λ settled l₁. andThen (readArrivals l₁) λ arrivals l₂. got (record { settled = settled; arrivals = arrivals }) l₂)

@@ -6,7 +6,8 @@ use lib.ListN.{length, drop}
 use Rattle.octets.specs.Octets.{Bytes, bigEndian}
 use Rattle.text.specs.Reading.{Read, failed, got}
 use Rattle.text.specs.Found.{bytesIn, Within}
-use Rattle.form.specs.Form.{NamedValues, SettledValues, MovedValues, readSettled, readMoved}
+use Rattle.window.specs.declared.Counters.{Counters}
+use Rattle.form.specs.Form.{NamedValues, SettledValues, MovedValues, ArrivalValues, readSettled, readArrivals}
 use Rattle.form.specs.declared.lines.NamedLines.{NamedLines}
 use Rattle.form.specs.declared.lines.TermLines.{TermLines}
 use Rattle.form.specs.declared.lines.MovedLines.{MovedLines}
@@ -18,6 +19,10 @@ use Rattle.form.specs.declared.lines.Settled.{Settled}
 use Rattle.form.specs.declared.lines.Settled.the-variants as settled
 use Rattle.form.specs.declared.lines.Moved.{Moved}
 use Rattle.form.specs.declared.lines.Moved.the-variants as moved
+use Rattle.form.specs.declared.lines.Counted.{Counted}
+use Rattle.form.specs.declared.lines.Counted.the-variants as counted
+use Rattle.form.specs.declared.lines.Arrivals.{Arrivals}
+use Rattle.form.specs.declared.lines.Arrivals.the-variants as arrivals
 use Rattle.form.specs.declared.reader.Lines.{Lines}
 
 -- ---- the values of lines, whose bytes in hex stand in the text
@@ -32,6 +37,9 @@ settledValues text v w = record { named = namedValues text v; terms = w }
 abbrev pub movedValues : List ℕ → MovedLines → MovedValues
 movedValues text v =
     record { highest = v .highest; marks = bigEndian 32 (bytesIn text (v .marks)); accepted = v .accepted; bytes = v .bytes }
+
+abbrev pub arrivalValues : List ℕ → MovedLines → Counters → ArrivalValues
+arrivalValues text v w = record { moved = movedValues text v; counters = w }
 
 -- the digits of KeyId and source
 abbrev pub NamedWithin : List ℕ → NamedLines → Type 0
@@ -61,6 +69,14 @@ abbrev pub FindsMoved : List ℕ → Read MovedValues → Moved → Type 0
 FindsMoved text read (moved.Is v next) = (read ≡ got (movedValues text v) (drop next text)) × (next ≤ length text) × MovedWithin text v
 FindsMoved text read moved.Bad = read ≡ failed
 
+abbrev pub FindsCounters : List ℕ → Read Counters → Counted → Type 0
+FindsCounters text read (counted.Is v next) = (read ≡ got v (drop next text)) × (next ≤ length text)
+FindsCounters text read counted.Bad = read ≡ failed
+
+abbrev pub FindsArrivals : List ℕ → Read ArrivalValues → Arrivals → Type 0
+FindsArrivals text read (arrivals.Is v w next) = (read ≡ got (arrivalValues text v w) (drop next text)) × (next ≤ length text) × MovedWithin text v
+FindsArrivals text read arrivals.Bad = read ≡ failed
+
 -- the place behind the first stretch
 abbrev pub placeOf : Settled → ℕ
 placeOf (settled.Is v w next) = next
@@ -69,4 +85,4 @@ placeOf settled.Bad = 0
 -- both stretches of a text, the second behind the first
 pub record LinesFound (text : List ℕ) (r : Lines) : Type 0 where
   pub settled : FindsSettled text (readSettled text) (r .settled)
-  pub moved : FindsMoved text (readMoved (drop (placeOf (r .settled)) text)) (r .moved)
+  pub arrivals : FindsArrivals text (readArrivals (drop (placeOf (r .settled)) text)) (r .arrivals)

@@ -1,13 +1,14 @@
-// The lines of a listing, read from a place of the text: in three stretches, as they are printed.
+// The lines of a listing, read from a place of the text: in four stretches, as they are printed, two of which an install settled and two are by the arrivals.
 ghost use mathlib.Core.Path.{_≡_};
 ghost use Prim.Native.Nat.{_≤_};
 ghost use lib.ListN.{length, drop};
-ghost use Rattle.form.specs.Form.{readNamed, readTerms, readSettled, readMoved};
-ghost use Rattle.form.specs.Found.{FindsNamed, FindsTerms, FindsSettled, FindsMoved, placeOf};
+ghost use Rattle.form.specs.Form.{readNamed, readTerms, readSettled, readMoved, readCounters, readArrivals};
+ghost use Rattle.form.specs.Found.{FindsNamed, FindsTerms, FindsSettled, FindsMoved, FindsCounters, FindsArrivals, placeOf};
 use text::reading;
 use text::reading::Hex;
 use text::reading::Number;
 use text::reading::Span;
+use window::Counters;
 use window::Frame;
 
 // Which entry it is.
@@ -25,7 +26,7 @@ pub struct TermLines {
     pub frame: Frame,
 }
 
-// What the arrivals moved.
+// What the arrivals moved that were handed out.
 pub struct MovedLines {
     pub highest: u64,
     pub marks: Hex,
@@ -54,6 +55,16 @@ pub enum Moved {
     Bad,
 }
 
+pub enum Counted {
+    Is(Counters, usize),
+    Bad,
+}
+
+pub enum Arrivals {
+    Is(MovedLines, Counters, usize),
+    Bad,
+}
+
 // The lines that an install settled, from `at` on.
 pub(crate) fn settled_at(text: &[u8], at: usize) -> Settled
     ensures { λ r. ⌜ FindsSettled (now (text .entry)) (readSettled (drop at (now (text .entry)))) r ⌝ }
@@ -67,8 +78,21 @@ pub(crate) fn settled_at(text: &[u8], at: usize) -> Settled
     Settled::Is(named, terms, next)
 }
 
-// The lines that the arrivals moved, from `at` on.
-pub(crate) fn moved_at(text: &[u8], at: usize) -> Moved
+// The lines by the arrivals, from `at` on.
+pub(crate) fn arrivals_at(text: &[u8], at: usize) -> Arrivals
+    ensures { λ r. ⌜ FindsArrivals (now (text .entry)) (readArrivals (drop at (now (text .entry)))) r ⌝ }
+{
+    let Moved::Is(moved, a) = moved_at(text, at) else {
+        return Arrivals::Bad;
+    };
+    let Counted::Is(counters, next) = counters_at(text, a) else {
+        return Arrivals::Bad;
+    };
+    Arrivals::Is(moved, counters, next)
+}
+
+// The lines that the arrivals moved which were handed out.
+fn moved_at(text: &[u8], at: usize) -> Moved
     ensures { λ r. ⌜ FindsMoved (now (text .entry)) (readMoved (drop at (now (text .entry)))) r ⌝ }
 {
     if text.len() < at {
@@ -159,4 +183,22 @@ fn terms_at(text: &[u8], at: usize) -> Terms
         },
     };
     Terms::Is(terms, next)
+}
+
+// The lines of what was turned away.
+fn counters_at(text: &[u8], at: usize) -> Counted
+    requires { ⌜ at ≤ length (now text) ⌝ }
+    ensures { λ r. ⌜ FindsCounters (now (text .entry)) (readCounters (drop at (now (text .entry)))) r ⌝ }
+{
+    let Number::Is(replays, a) = reading::decimal_line(b"replays=", text, at) else {
+        return Counted::Bad;
+    };
+    let Number::Is(forged, next) = reading::decimal_line(b"forged=", text, a) else {
+        return Counted::Bad;
+    };
+    let counters = Counters {
+        replays: replays,
+        forged: forged,
+    };
+    Counted::Is(counters, next)
 }

@@ -1,10 +1,10 @@
 // A reader: the text of a listing, and the place that it has reached. Its functions are thin, over those of `lines`, and proved by hand.
 ghost use mathlib.Core.Path.{_≡_};
 ghost use lib.ListN.{drop};
-ghost use Rattle.form.specs.Form.{readSettled, readMoved};
-ghost use Rattle.form.specs.Found.{FindsSettled, FindsMoved, LinesFound};
+ghost use Rattle.form.specs.Form.{readSettled, readArrivals};
+ghost use Rattle.form.specs.Found.{FindsSettled, FindsArrivals, LinesFound};
 use crate::lines;
-use crate::lines::Moved;
+use crate::lines::Arrivals;
 use crate::lines::Settled;
 
 pub struct Reader<'a> {
@@ -15,16 +15,16 @@ pub struct Reader<'a> {
 // What a text was found to be, in two stretches.
 pub struct Lines {
     pub settled: Settled,
-    pub moved: Moved,
+    pub arrivals: Arrivals,
 }
 
-// A text is read: from its start what an install settled, and behind that what the arrivals moved.
+// A text is read: from its start what an install settled, and behind that the lines by the arrivals.
 pub fn read(text: &[u8]) -> Lines
     ensures { λ r. ⌜ LinesFound (now (text .entry)) r ⌝ }
 {
     let start = new(text);
     let first = settled(start);
-    joined(first, moved(on(start, lines::place(first))))
+    joined(first, arrivals(on(start, lines::place(first))))
 }
 
 // A reader at the start of a text.
@@ -48,19 +48,19 @@ pub(crate) fn settled<'a>(r: Reader<'a>) -> Settled
     lines::settled_at(r.text, r.at)
 }
 
-// The lines that the arrivals moved, at the reader's place.
-pub(crate) fn moved<'a>(r: Reader<'a>) -> Moved
-    ensures { λ m. ⌜ FindsMoved (now (r .entry .text)) (readMoved (drop (r .entry .at) (now (r .entry .text)))) m ⌝ }
+// The lines by the arrivals, at the reader's place.
+pub(crate) fn arrivals<'a>(r: Reader<'a>) -> Arrivals
+    ensures { λ a. ⌜ FindsArrivals (now (r .entry .text)) (readArrivals (drop (r .entry .at) (now (r .entry .text)))) a ⌝ }
 {
-    lines::moved_at(r.text, r.at)
+    lines::arrivals_at(r.text, r.at)
 }
 
 // Both stretches as one answer, put together by a function so that `read` is nothing but calls.
-fn joined(first: Settled, second: Moved) -> Lines
-    ensures { λ r. ⌜ r ≡ record { settled = first; moved = second } ⌝ }
+fn joined(first: Settled, second: Arrivals) -> Lines
+    ensures { λ r. ⌜ r ≡ record { settled = first; arrivals = second } ⌝ }
 {
     Lines {
         settled: first,
-        moved: second,
+        arrivals: second,
     }
 }

@@ -1,5 +1,5 @@
 -- `form::lines::settled_at` meets its contract: the terms are read behind the name, and the first that is not in its form decides. Assumes nothing.
-use mathlib.Core.Path.{_≡_, subst}
+use mathlib.Core.Path.{_≡_, subst, _∙_}
 use mathlib.Core.List.{List}
 use Prim.Native.Nat.{ℕ}
 use borrow.Author.Needs.{needs}
@@ -10,7 +10,8 @@ use Rattle.form.specs.declared.lines.Named.{Named}
 use Rattle.form.specs.declared.lines.Named.the-variants as named
 use Rattle.form.specs.declared.lines.Terms.{Terms}
 use Rattle.form.specs.declared.lines.Terms.the-variants as terms
-use Rattle.form.proofs.Stretches.{no-named, no-terms, both-settled}
+use Rattle.form.proofs.Chains.{one-fails, other-fails, both-got}
+use Rattle.form.proofs.Stretches.{settled-of, settled-two}
 use Rattle.form.proofs.lines.settled_at.Statement.{statement}
 use Rattle.form.proofs.lines.settled_at.Tie as tie
 
@@ -50,16 +51,16 @@ second c =
 returns : tie.Need-returns
 returns c =
     let p = c .before .before in
-    no-named (left₀ p) (name-by (text₀ p) (p .before .before .args .at) (c .enum-told .given .1) (p .named-at .ensures))
+    settled-two (left₀ p) ∙ one-fails readNamed readTerms settled-of (left₀ p) (name-by (text₀ p) (p .before .before .args .at) (c .enum-told .given .1) (p .named-at .ensures))
 
 returns-2 : tie.Need-returns-2
 returns-2 c =
     let k = c .before .before .before in
-    no-terms (left₀ (back₁ k)) (first k .0)
+    settled-two (left₀ (back₁ k)) ∙ other-fails readNamed readTerms settled-of (left₀ (back₁ k)) (first k .0)
     (terms-by (text₀ (back₁ k)) (k .before .named .given .0 .1 .0) (c .enum-told2 .given .1) (c .before .before .terms-at .ensures))
 
 returns-3 : tie.Need-returns-3
-returns-3 c = let k = back₂ c in (both-settled (left₀ (back₁ k)) (first k .0) (second c .0), first k .2)
+returns-3 c = let k = back₂ c in (settled-two (left₀ (back₁ k)) ∙ both-got readNamed readTerms settled-of (left₀ (back₁ k)) (first k .0) (second c .0), first k .2)
 
 pub settled-at-spec : {M : Type 1} → statement M
 settled-at-spec =

@@ -38,20 +38,20 @@ use denote.Triple.Table.{entered, cited}
 use denote.Triple.Walked.{says, Stays, stay-none-slice, walkOf, goes-none-slice, Walks, ends-at, walked, walk-meets}
 use denote.Exit.{yes}
 use denote.Triple.Clauses.{ensured, lasts}
-use Rattle.form.specs.Form.{readSettled, readMoved}
-use Rattle.form.specs.Found.{FindsSettled, FindsMoved, placeOf, LinesFound}
+use Rattle.form.specs.Form.{readSettled, readArrivals}
+use Rattle.form.specs.Found.{FindsSettled, FindsArrivals, placeOf, LinesFound}
 use Rattle.form.specs.declared.reader.Reader.{Reader}
 use Rattle.form.specs.declared.reader.Lines.{Lines}
 use Rattle.form.specs.declared.lines.Settled.{Settled}
-use Rattle.form.specs.declared.lines.Moved.{Moved}
+use Rattle.form.specs.declared.lines.Arrivals.{Arrivals}
 use Rattle.form.proofs.reader.Reader as T
 use Rattle.form.proofs.reader.Reader.Laws as T′
 use Rattle.form.proofs.reader.Lines as L
 use Rattle.form.proofs.reader.Lines.Laws as L′
 use Rattle.form.proofs.lines.Settled as S
 use Rattle.form.proofs.lines.Settled.Laws as S′
-use Rattle.form.proofs.lines.Moved as M′
-use Rattle.form.proofs.lines.Moved.Laws as M″
+use Rattle.form.proofs.lines.Arrivals as M′
+use Rattle.form.proofs.lines.Arrivals.Laws as M″
 use Rattle.form.proofs.reader.new as new
 use Rattle.form.proofs.reader.new.Symbol as new-def
 use Rattle.form.proofs.reader.new.Symbol.{name as #new}
@@ -68,10 +68,10 @@ use Rattle.form.proofs.reader.on as on
 use Rattle.form.proofs.reader.on.Symbol as on-def
 use Rattle.form.proofs.reader.on.Symbol.{name as #on}
 use Rattle.form.proofs.reader.on.Met as on-thm
-use Rattle.form.proofs.reader.moved as moved
-use Rattle.form.proofs.reader.moved.Symbol as moved-def
-use Rattle.form.proofs.reader.moved.Symbol.{name as #moved}
-use Rattle.form.proofs.reader.moved.Met as moved-thm
+use Rattle.form.proofs.reader.arrivals as arrivals
+use Rattle.form.proofs.reader.arrivals.Symbol as arrivals-def
+use Rattle.form.proofs.reader.arrivals.Symbol.{name as #arrivals}
+use Rattle.form.proofs.reader.arrivals.Met as arrivals-thm
 use Rattle.form.proofs.reader.joined as joined
 use Rattle.form.proofs.reader.joined.Symbol as joined-def
 use Rattle.form.proofs.reader.joined.Symbol.{name as #joined}
@@ -82,15 +82,15 @@ use Rattle.form.proofs.reader.read.Statement as stated
 use Rattle.form.proofs.reader.read.Code as code
 
 -- what the six callees ensure says what is to be ensured
-together : (s t : RefT (List ℕ)) (a : ℕ) (u : RefT (List ℕ)) (b p : ℕ) (x : Settled) (y : Moved) (r : Lines) → (t ≡ s) × (a ≡ 0)
-    → FindsSettled (now t) (readSettled (drop a (now t))) x → p ≡ placeOf x → (u ≡ t) × (b ≡ p) → FindsMoved (now u) (readMoved (drop b (now u))) y
-    → r ≡ record { settled = x; moved = y } → LinesFound (now s) r
+together : (s t : RefT (List ℕ)) (a : ℕ) (u : RefT (List ℕ)) (b p : ℕ) (x : Settled) (y : Arrivals) (r : Lines) → (t ≡ s) × (a ≡ 0)
+    → FindsSettled (now t) (readSettled (drop a (now t))) x → p ≡ placeOf x → (u ≡ t) × (b ≡ p) → FindsArrivals (now u) (readArrivals (drop b (now u))) y
+    → r ≡ record { settled = x; arrivals = y } → LinesFound (now s) r
 together s t a u b p x y r e f g h k l =
     let start = subst (λ (n : ℕ). FindsSettled (now t) (readSettled (drop n (now t))) x) (e .1) f in
-    let behind = subst (λ (n : ℕ). FindsMoved (now u) (readMoved (drop n (now u))) y) (h .1 ∙ g) k in
+    let behind = subst (λ (n : ℕ). FindsArrivals (now u) (readArrivals (drop n (now u))) y) (h .1 ∙ g) k in
     subst (λ (z : Lines). LinesFound (now s) z) (sym l) (record {
       settled = subst (λ (z : RefT (List ℕ)). FindsSettled (now z) (readSettled (now z)) x) (e .0) start;
-      moved = subst (λ (z : RefT (List ℕ)). FindsMoved (now z) (readMoved (drop (placeOf x) (now z))) y) (h .0 ∙ e .0) behind;
+      arrivals = subst (λ (z : RefT (List ℕ)). FindsArrivals (now z) (readArrivals (drop (placeOf x) (now z))) y) (h .0 ∙ e .0) behind;
     })
 
 -- the struct's type, over the signature's lifetimes
@@ -115,7 +115,7 @@ module _ {M : Type 1} (𝓤 : URA M) (H : Heap 𝓤) (A : Atoms 𝓤) (mem : Mem
   On = tripleOf 𝓤 H A on.signature (on.spec 𝓤 H A mem run)
 
   abbrev Second : Contract 𝓤
-  Second = tripleOf 𝓤 H A moved.signature (moved.spec 𝓤 H A mem run)
+  Second = tripleOf 𝓤 H A arrivals.signature (arrivals.spec 𝓤 H A mem run)
 
   abbrev Joined : Contract 𝓤
   Joined = tripleOf 𝓤 H A joined.signature (joined.spec 𝓤 H A mem run)
@@ -126,7 +126,7 @@ module _ {M : Type 1} (𝓤 : URA M) (H : Heap 𝓤) (A : Atoms 𝓤) (mem : Mem
     pub first : Triple 𝓤 (C #settled) First
     pub place : Triple 𝓤 (C #place) Place
     pub on : Triple 𝓤 (C #on) On
-    pub second : Triple 𝓤 (C #moved) Second
+    pub second : Triple 𝓤 (C #arrivals) Second
     pub joined : Triple 𝓤 (C #joined) Joined
 
 module _ {M : Type 1} (𝓤 : URA M) (H : Heap 𝓤) (A : Atoms 𝓤) (W : Given 𝓤 H A) (mem : Memory → SProp 𝓤) (run : Routine → Fun 𝓤) (κ : Lft) (q : Share) (s : RefT (List ℕ)) where
@@ -210,7 +210,7 @@ module _ {M : Type 1} (𝓤 : URA M) (H : Heap 𝓤) (A : Atoms 𝓤) (W : Given
   said-on : (r : Reader) (p : ℕ) (t : Reader) → ent 𝓤 (ensured 𝓤 H A on.ended (on.clauses 𝓤 H A mem run) (κ, tt) (r, (p, tt)) tt t) (fact 𝓤 (SaysOn r p t))
   said-on r p t = exE 𝓤 _ (λ ws. snd∗ 𝓤 (sem 𝓤 H A (lasts on.ended (κ, tt) (r, (p, tt)) ws)) (fact 𝓤 (SaysOn r p t)))
 
-  -- ---- `moved`
+  -- ---- `arrivals`
 
   abbrev to-second : Reader → Val → Second 𝓤 H A mem run .Ghost
   to-second r u = (((κ, tt), (q, tt), tt, (r, tt), (u ∷ [], tt)), tt)
@@ -218,25 +218,25 @@ module _ {M : Type 1} (𝓤 : URA M) (H : Heap 𝓤) (A : Atoms 𝓤) (W : Given
   goes-second : (r : Reader) (u : Val) → ent 𝓤 (⋆ 𝓤 H A (‵ (OwnR r u) ∷ toks ∷ [])) (Second 𝓤 H A mem run .pre (to-second r u))
   goes-second r u = qed W (‵ (OwnR r u) ∷ toks ∷ []) ∵ nothing ! $ move ! (1 ∷ 0 ∷ []) $ fjoin ! $ move ! (1 ∷ 0 ∷ []) $ join ! $ frame ! $ done !
 
-  abbrev SaysSecond : Reader → Moved → Type 0
-  SaysSecond r y = FindsMoved (now (r .text)) (readMoved (drop (r .at) (now (r .text)))) y
+  abbrev SaysSecond : Reader → Arrivals → Type 0
+  SaysSecond r y = FindsArrivals (now (r .text)) (readArrivals (drop (r .at) (now (r .text)))) y
 
-  said-second : (r : Reader) (y : Moved) → ent 𝓤 (ensured 𝓤 H A moved.ended (moved.clauses 𝓤 H A mem run) (κ, tt) (r, tt) tt y) (fact 𝓤 (SaysSecond r y))
-  said-second r y = exE 𝓤 _ (λ ws. snd∗ 𝓤 (sem 𝓤 H A (lasts moved.ended (κ, tt) (r, tt) ws)) (fact 𝓤 (SaysSecond r y)))
+  said-second : (r : Reader) (y : Arrivals) → ent 𝓤 (ensured 𝓤 H A arrivals.ended (arrivals.clauses 𝓤 H A mem run) (κ, tt) (r, tt) tt y) (fact 𝓤 (SaysSecond r y))
+  said-second r y = exE 𝓤 _ (λ ws. snd∗ 𝓤 (sem 𝓤 H A (lasts arrivals.ended (κ, tt) (r, tt) ws)) (fact 𝓤 (SaysSecond r y)))
 
   -- ---- `joined`
 
-  abbrev to-joined : Settled → Moved → Val → Val → Joined 𝓤 H A mem run .Ghost
+  abbrev to-joined : Settled → Arrivals → Val → Val → Joined 𝓤 H A mem run .Ghost
   to-joined x y u w = ((tt, tt, tt, (x, (y, tt)), (u ∷ [], (w ∷ [], tt))), tt)
 
-  goes-joined : (x : Settled) (y : Moved) (u w : Val) → ent 𝓤 (⋆ 𝓤 H A (‵ (S.the-row .own x (u ∷ [])) ∷ ‵ (M′.the-row .own y (w ∷ [])) ∷ [])) (Joined 𝓤 H A mem run .pre (to-joined x y u w))
+  goes-joined : (x : Settled) (y : Arrivals) (u w : Val) → ent 𝓤 (⋆ 𝓤 H A (‵ (S.the-row .own x (u ∷ [])) ∷ ‵ (M′.the-row .own y (w ∷ [])) ∷ [])) (Joined 𝓤 H A mem run .pre (to-joined x y u w))
   goes-joined x y u w =
       qed W (‵ (S.the-row .own x (u ∷ [])) ∷ ‵ (M′.the-row .own y (w ∷ [])) ∷ []) ∵ nothing ! $ move ! (2 ∷ 0 ∷ []) $ fjoin ! $ move ! (1 ∷ 0 ∷ []) $ fjoin ! $ nothing ! $ join ! $ frame ! $ done !
 
-  abbrev SaysJoined : Settled → Moved → Lines → Type 0
-  SaysJoined x y z = z ≡ record { settled = x; moved = y }
+  abbrev SaysJoined : Settled → Arrivals → Lines → Type 0
+  SaysJoined x y z = z ≡ record { settled = x; arrivals = y }
 
-  said-joined : (x : Settled) (y : Moved) (z : Lines) → ent 𝓤 (ensured 𝓤 H A joined.ended (joined.clauses 𝓤 H A mem run) tt (x, (y, tt)) tt z) (fact 𝓤 (SaysJoined x y z))
+  said-joined : (x : Settled) (y : Arrivals) (z : Lines) → ent 𝓤 (ensured 𝓤 H A joined.ended (joined.clauses 𝓤 H A mem run) tt (x, (y, tt)) tt z) (fact 𝓤 (SaysJoined x y z))
   said-joined x y z = exE 𝓤 _ (λ ws. snd∗ 𝓤 (sem 𝓤 H A (lasts joined.ended tt (x, (y, tt)) ws)) (fact 𝓤 (SaysJoined x y z)))
 
   -- ---- the walk
@@ -284,10 +284,10 @@ module _ {M : Type 1} (𝓤 : URA M) (H : Heap 𝓤) (A : Atoms 𝓤) (W : Given
         split ! $ move ! (1 ∷ []) $ use1 W (raw (fact 𝓤 (SaysOn r p t))) (said-on r p t) $ heard ! (SaysOn r p t) (λ e₃. split ! $ move ! (1 ∷ []) $
         peeks ! (B (κ, tt)) (Is (B (κ, tt))) (shows 𝓤 H A (B (κ, tt))) t (u₃ ∷ []) (λ is₃.
         land ! (from ! (stop !)) (init ! 7 refl (LL.lawful (T.the-type αᵉ) (T′.the-laws αᵉ) 𝓤 H A W .typed t _ is₃ .0)) $
-        -- `moved`: [what the second reader owns; the token; what s owns; _8; …]
+        -- `arrivals`: [what the second reader owns; the token; what s owns; _8; …]
         use2 W (raw (Second 𝓤 H A mem run .pre (to-second t u₃))) (goes-second t u₃) $
         calls-at ! fm (Second 𝓤 H A mem run) (known .second) (to-second t u₃) (and-then ! (load ! (from ! (stop !)) (look ! 6 refl)) (no-more !)) (λ u₄.
-        use1 W (later (some (λ (y : Moved). (toks ⊛ ‵ (M′.the-row .own y (u₄ ∷ []))) ⊛ raw (ensured 𝓤 H A moved.ended (moved.clauses 𝓤 H A mem run) (κ, tt) (t, tt) tt y)))) (id⊢ 𝓤 _) $ await ! tt $ pick ! (λ y.
+        use1 W (later (some (λ (y : Arrivals). (toks ⊛ ‵ (M′.the-row .own y (u₄ ∷ []))) ⊛ raw (ensured 𝓤 H A arrivals.ended (arrivals.clauses 𝓤 H A mem run) (κ, tt) (t, tt) tt y)))) (id⊢ 𝓤 _) $ await ! tt $ pick ! (λ y.
         split ! $ move ! (1 ∷ []) $ use1 W (raw (fact 𝓤 (SaysSecond t y))) (said-second t y) $ heard ! (SaysSecond t y) (λ e₄. split ! $ move ! (1 ∷ []) $
         peeks ! M′.the-row (Is M′.the-row) (shows 𝓤 H A M′.the-row) y (u₄ ∷ []) (λ is₄.
         land ! (from ! (stop !)) (init ! 9 refl (EL.lawful M′.the-type M″.the-laws 𝓤 H A W tt .typed y _ is₄ .0)) $
@@ -323,6 +323,6 @@ read-spec 𝓤 H 𝓜 𝓖 𝓡 =
       first = cited 𝓤 H (First 𝓤 H (𝓖 .A) (𝓜 .mem) (𝓡 .run)) 𝓜 𝓡 code.env #settled settled-def.routine code.calls-form·reader·settled (settled-thm.met 𝓤 H 𝓜 𝓖 𝓡);
       place = cited 𝓤 H (Place 𝓤 H (𝓖 .A) (𝓜 .mem) (𝓡 .run)) 𝓜 𝓡 code.env #place place-def.routine code.calls-form·lines·place (place-thm.met 𝓤 H 𝓜 𝓖 𝓡);
       on = cited 𝓤 H (On 𝓤 H (𝓖 .A) (𝓜 .mem) (𝓡 .run)) 𝓜 𝓡 code.env #on on-def.routine code.calls-form·reader·on (on-thm.met 𝓤 H 𝓜 𝓖 𝓡);
-      second = cited 𝓤 H (Second 𝓤 H (𝓖 .A) (𝓜 .mem) (𝓡 .run)) 𝓜 𝓡 code.env #moved moved-def.routine code.calls-form·reader·moved (moved-thm.met 𝓤 H 𝓜 𝓖 𝓡);
+      second = cited 𝓤 H (Second 𝓤 H (𝓖 .A) (𝓜 .mem) (𝓡 .run)) 𝓜 𝓡 code.env #arrivals arrivals-def.routine code.calls-form·reader·arrivals (arrivals-thm.met 𝓤 H 𝓜 𝓖 𝓡);
       joined = cited 𝓤 H (Joined 𝓤 H (𝓖 .A) (𝓜 .mem) (𝓡 .run)) 𝓜 𝓡 code.env #joined joined-def.routine code.calls-form·reader·joined (joined-thm.met 𝓤 H 𝓜 𝓖 𝓡);
     }))
