@@ -1,4 +1,4 @@
--- What a load comes to: each refusal by its own test, and the entry that takes window and totals.
+-- What a load comes to: each refusal by its own test, and the entry that takes window, totals and counters.
 -- Assumes nothing.
 use mathlib.Core.Path.{_≡_, refl, sym, ap, _∙_}
 use mathlib.Core.Bool.{true, false, and-false}
@@ -10,7 +10,7 @@ use Rattle.answers.specs.Answers.{refused, badText, notStanding, wouldBeDamaged
 use Rattle.answers.specs.declared.Answer.{Answer}
 use Rattle.format.specs.KeyData.{soundOf}
 use Rattle.window.specs.Entry.{undamagedEntry}
-use Rattle.slots.specs.Table.{slotOf, keyDataOf, settled, slotCount}
+use Rattle.slots.specs.Table.{slotOf, keyDataOf, restored, slotCount}
 use Rattle.slots.proofs.Slots.{lent, slot-lent}
 use Rattle.entries.specs.Install.{IsLeft, doneAt}
 use Rattle.form.specs.Form.{Listing, listingIn}
@@ -47,13 +47,13 @@ module _ (t : List ℕ) (l : Listing) where
       unfit h e = rw (lt-ltb slot slotCount small, here, h, and-false) (record { answers = e; leaves = refl })
 
       pub taken-up : {o : List ℕ} → soundOf (keyDataOf (lent t slot)) ≡ true → undamagedEntry (listedEntry l) ≡ true
-          → o ≡ settled t slot (listedEntry l) → IsLeft (takenUp t l) (doneAt slot) o
+          → o ≡ restored t slot (listedEntry l) → IsLeft (takenUp t l) (doneAt slot) o
       unfolding takenUp
       taken-up h k e = rw (lt-ltb slot slotCount small, here, sound-here ∙ h, k) (record { answers = refl; leaves = e })
 
   -- the same as one equation
   pub takes-up : slot < slotCount → stands (l .settled) (slotOf t slot) ≡ true → soundOf (keyDataOf (slotOf t slot)) ≡ true → undamagedEntry (listedEntry l) ≡ true
-      → takenUp t l ≡ record { answer = doneAt slot; table = settled t slot (listedEntry l) }
+      → takenUp t l ≡ record { answer = doneAt slot; table = restored t slot (listedEntry l) }
   unfolding takenUp
   takes-up small there sound fit = rw (lt-ltb slot slotCount small, there, sound, fit)
 

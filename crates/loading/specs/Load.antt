@@ -1,6 +1,7 @@
 -- Loading a listing (02, No. 6): "The entry with that slot, flag, KeyId, source, suite, edition, size and start must stand in the table with accepted 0;
 -- it then takes the listed highest, marks and totals. .. Refusals: 21 text not in this form; 22 no such entry with accepted 0; 23 the loaded record
--- would be damaged; in that order, the table unchanged." No. 7: "Done, it and a load return the slot as install does."
+-- would be damaged; in that order, the table unchanged." No. 7: "Done, it and a load return the slot as install does." No. 8: "loading
+-- takes them over", the listed counters.
 use mathlib.Core.Bool.{Bool, cond, _&&_}
 use mathlib.Core.List.{List}
 use mathlib.Core.Option.{Option, none, some}
@@ -11,7 +12,7 @@ use Rattle.answers.specs.Answers.{refused, badText, notStanding, wouldBeDamaged
 use Rattle.format.specs.KeyData.{soundOf}
 use Rattle.window.specs.declared.Frame.{Frame}
 use Rattle.window.specs.Entry.{Entry, undamagedEntry}
-use Rattle.slots.specs.Table.{slotOf, csOf, editionOf, sourceOf, keyDataOf, frameOf, entryOf, settled, slotCount}
+use Rattle.slots.specs.Table.{slotOf, csOf, editionOf, sourceOf, keyDataOf, frameOf, entryOf, restored, slotCount}
 use Rattle.lookup.specs.Lookup.{matches}
 use Rattle.entries.specs.Install.{Left, doneAt}
 use Rattle.form.specs.Form.{NamedValues, SettledValues, Listing, listingIn}
@@ -37,12 +38,13 @@ stands v s = namedSo (v .named) s && termsSo (v .terms) s && eqb (entryOf s .acc
 
 -- ---- the loaded record
 
--- the listed window and totals
+-- the listed window, totals and counters
 abbrev pub listedEntry : Listing → Entry
 listedEntry l = record {
-  window = record { frame = l .settled .terms .frame; highest = l .moved .highest; marks = l .moved .marks };
-  accepted = l .moved .accepted;
-  bytes = l .moved .bytes;
+  window = record { frame = l .settled .terms .frame; highest = l .arrivals .moved .highest; marks = l .arrivals .moved .marks };
+  accepted = l .arrivals .moved .accepted;
+  bytes = l .arrivals .moved .bytes;
+  counters = l .arrivals .counters;
 }
 
 -- it is undamaged: the key data of the slot, with these
@@ -55,7 +57,7 @@ unfoldable pub takenUp : List ℕ → Listing → Left
 takenUp t l =
     let i = l .settled .named .slot in
     cond (ltb i slotCount && stands (l .settled) (slotOf t i))
-    (cond (loadable (slotOf t i) (listedEntry l)) (record { answer = doneAt i; table = settled t i (listedEntry l) })
+    (cond (loadable (slotOf t i) (listedEntry l)) (record { answer = doneAt i; table = restored t i (listedEntry l) })
     (record { answer = refused wouldBeDamaged; table = t }))
     (record { answer = refused notStanding; table = t })
 

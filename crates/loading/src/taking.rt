@@ -1,4 +1,4 @@
-// The entry that a listing names, and the window and totals that it takes.
+// The entry that a listing names, and the window, totals and counters that it takes.
 ghost use mathlib.Core.Path.{_≡_};
 ghost use lib.ListN.{length};
 ghost use Rattle.octets.specs.Octets.{bigEndian};
@@ -6,10 +6,10 @@ ghost use Rattle.text.specs.Found.{bytesIn};
 ghost use Rattle.window.specs.Window.{viewOf};
 ghost use Rattle.slots.specs.Table.{slotLength, tableLength};
 ghost use Rattle.entries.specs.Install.{IsLeft};
-ghost use Rattle.form.specs.Found.{namedValues, settledValues, movedValues, NamedWithin, MovedWithin};
+ghost use Rattle.form.specs.Found.{namedValues, settledValues, arrivalValues, NamedWithin, MovedWithin};
 ghost use Rattle.loading.specs.Load.{namedSo, termsSo, stands, takenUp, loaded};
 use answers::Answer;
-use form::lines::Moved;
+use form::lines::Arrivals;
 use form::lines::MovedLines;
 use form::lines::NamedLines;
 use form::lines::Settled;
@@ -18,6 +18,7 @@ use form::reader;
 use slots::layout;
 use slots::record;
 use text::reading;
+use window::Counters;
 use window::Frame;
 use window::Window;
 
@@ -28,29 +29,30 @@ pub(crate) fn load_in(table: &mut [u8], text: &[u8]) -> Answer
 {
     let lines = reader::read(text);
     let first = lines.settled;
-    let second = lines.moved;
+    let second = lines.arrivals;
     let Settled::Is(named, terms, _) = first else {
         return answers::refuse(answers::BAD_TEXT);
     };
-    let Moved::Is(moved, end) = second else {
+    let Arrivals::Is(moved, counters, end) = second else {
         return answers::refuse(answers::BAD_TEXT);
     };
     if end != text.len() {
         return answers::refuse(answers::BAD_TEXT);
     }
-    take_up(table, text, named, terms, moved)
+    take_up(table, text, named, terms, moved, counters)
 }
 
-// Where no such entry stands, 22, and where it would be damaged, 23; else it takes the listed window and totals.
+// Where no such entry stands, 22, and where it would be damaged, 23; else it takes the listed window, totals and counters.
 fn take_up(
     table: &mut [u8],
     text: &[u8],
     named: NamedLines,
     terms: TermLines,
     moved: MovedLines,
+    counters: Counters,
 ) -> Answer
     requires { ⌜ (length (now table) ≡ tableLength) × NamedWithin (now text) named × MovedWithin (now text) moved ⌝ }
-    ensures { λ r. ⌜ IsLeft (takenUp (now (table .entry)) (record { settled = settledValues (now (text .entry)) named terms; moved = movedValues (now (text .entry)) moved })) r (now (table .exit)) ⌝ }
+    ensures { λ r. ⌜ IsLeft (takenUp (now (table .entry)) (record { settled = settledValues (now (text .entry)) named terms; arrivals = arrivalValues (now (text .entry)) moved counters })) r (now (table .exit)) ⌝ }
 {
     let slot = named.slot as usize;
     if layout::SLOTS <= slot {
@@ -65,10 +67,10 @@ fn take_up(
         return answers::refuse(answers::WOULD_BE_DAMAGED);
     }
     let window = listed_window(text, terms.frame, moved);
-    if !window::undamaged_entry(window, moved.accepted, moved.bytes) {
+    if !window::undamaged_entry(window, moved.accepted, moved.bytes, counters) {
         return answers::refuse(answers::WOULD_BE_DAMAGED);
     }
-    record::settle(table, slot, window, moved.accepted, moved.bytes);
+    record::restore(table, slot, window, moved.accepted, moved.bytes, counters);
     Answer {
         reply: answers::DONE,
         length: 0,

@@ -9,11 +9,11 @@ use borrow.Author.Needs.{needs}
 use lib.ListN.{length, drop}
 use Rattle.text.specs.Reading.{got}
 use Rattle.entries.specs.Install.{Left}
-use Rattle.form.specs.Form.{readSettled, readMoved, listingIn}
-use Rattle.form.specs.Found.{settledValues, movedValues, NamedWithin, MovedWithin}
+use Rattle.form.specs.Form.{readSettled, readArrivals, listingIn}
+use Rattle.form.specs.Found.{settledValues, arrivalValues, NamedWithin, MovedWithin}
 use Rattle.form.proofs.Halves.{first-bad, first-is, second-bad, second-is}
 use Rattle.loading.proofs.Loads.{not-read, is-read}
-use Rattle.form.proofs.Stretches.{no-settled, no-moved, more-behind, all-read}
+use Rattle.form.proofs.Stretches.{no-settled, no-arrivals, more-behind, all-read}
 use Rattle.loading.proofs.taking.load_in.Statement.{statement}
 use Rattle.loading.proofs.taking.load_in.Tie as tie
 
@@ -31,13 +31,13 @@ first c =
 -- the second
 second : (c : tie.After-known-told2) → let k = c .before .before .before in let p = k .before .before .before in let v = k .before .first .given .0 in
     let w = c .before .second .given .0 in
-    (readMoved (drop (v .1 .1 .0) (text p)) ≡ got (movedValues (text p) (w .0)) (drop (w .1 .0) (text p))) × (w .1 .0 ≤ length (text p)) × MovedWithin (text p) (w .0)
+    (readArrivals (drop (v .1 .1 .0) (text p)) ≡ got (arrivalValues (text p) (w .0) (w .1 .0)) (drop (w .1 .1 .0) (text p))) × (w .1 .1 .0 ≤ length (text p)) × MovedWithin (text p) (w .0)
 second c =
     let k = c .before .before .before in
     let p = k .before .before .before in
     let g = k .before .first .given in
     let h = c .before .second .given in
-    second-is (text p) (p .read .result) (p .read .ensures) (g .0 .0) (g .0 .1 .0) (g .0 .1 .1 .0) (g .1) (h .0 .0) (h .0 .1 .0) (h .1)
+    second-is (text p) (p .read .result) (p .read .ensures) (g .0 .0) (g .0 .1 .0) (g .0 .1 .1 .0) (g .1) (h .0 .0) (h .0 .1 .0) (h .0 .1 .1 .0) (h .1)
 
 returns : tie.Need-returns
 returns c =
@@ -51,7 +51,7 @@ returns-2 c =
     let p = k .before .before .before in
     let g = k .before .first .given in
     not-read (p .before .before .before .args .table .now) (text p)
-    (no-moved (text p) (first k .0)
+    (no-arrivals (text p) (first k .0)
     (second-bad (text p) (p .read .result) (p .read .ensures) (g .0 .0) (g .0 .1 .0) (g .0 .1 .1 .0) (g .1) (c .before .enum-told2 .given .1)))
     (c .refuse2 .ensures)
 
@@ -61,15 +61,15 @@ returns-3 c =
     let k = m .before .before .before in
     let p = k .before .before .before in
     not-read (p .before .before .before .args .table .now) (text p)
-    (more-behind (text p) (first k .0) (m .before .second .given .0 .1 .0) (second m .0) (second m .1) (λ e. omega (arith, c .before .if1 .taken))) (c .refuse3 .ensures)
+    (more-behind (text p) (first k .0) (m .before .second .given .0 .1 .1 .0) (second m .0) (second m .1) (λ e. omega (arith, c .before .if1 .taken))) (c .refuse3 .ensures)
 
 -- all is read
 listing : (c : tie.Else1) → let m = c .before in let k = m .before .before .before in let p = k .before .before .before in let v = k .before .first .given .0 in
-    listingIn (text p) ≡ some (record { settled = settledValues (text p) (v .0) (v .1 .0); moved = movedValues (text p) (m .before .second .given .0 .0) })
+    listingIn (text p) ≡ some (record { settled = settledValues (text p) (v .0) (v .1 .0); arrivals = arrivalValues (text p) (m .before .second .given .0 .0) (m .before .second .given .0 .1 .0) })
 listing c =
     let m = c .before in
     let k = m .before .before .before in
-    all-read (text (k .before .before .before)) (first k .0) (m .before .second .given .0 .1 .0) (second m .0) (omega (arith, c .if1 .left))
+    all-read (text (k .before .before .before)) (first k .0) (m .before .second .given .0 .1 .1 .0) (second m .0) (omega (arith, c .if1 .left))
 
 returns-4 : tie.Need-returns-4
 returns-4 c =

@@ -1,4 +1,4 @@
--- `loading::taking::take_up` meets its contract: each refusal by its own test; done, window and totals are written into the slot. Assumes nothing.
+-- `loading::taking::take_up` meets its contract: each refusal by its own test; done, window, totals and counters are written into the slot. Assumes nothing.
 use mathlib.Core.Path.{_≡_, sym, ap, _∙_}
 use mathlib.Core.Bool.{true}
 use native.Mathlib.Omega.{arith}
@@ -6,17 +6,17 @@ use borrow.Author.Needs.{needs}
 use borrow.Author.Tests.{not-true, not-false}
 use Rattle.window.specs.Window.{View}
 use Rattle.window.specs.Entry.{undamagedEntry}
-use Rattle.slots.specs.Table.{settled}
+use Rattle.slots.specs.Table.{restored}
 use Rattle.slots.proofs.Slots.{lent}
 use Rattle.form.specs.Form.{Listing}
-use Rattle.form.specs.Found.{settledValues, movedValues}
+use Rattle.form.specs.Found.{settledValues, arrivalValues}
 use Rattle.loading.specs.Load.{stands, listedEntry}
 use Rattle.loading.proofs.Loads.{no-slot, not-standing, unsound, unfit, taken-up}
 use Rattle.loading.proofs.taking.take_up.Statement.{statement}
 use Rattle.loading.proofs.taking.take_up.Tie as tie
 
 abbrev listing : tie.Start → Listing
-listing s = record { settled = settledValues (s .args .text .now) (s .args .named) (s .args .terms); moved = movedValues (s .args .text .now) (s .args .moved) }
+listing s = record { settled = settledValues (s .args .text .now) (s .args .named) (s .args .terms); arrivals = arrivalValues (s .args .text .now) (s .args .moved) (s .args .counters) }
 
 abbrev start : tie.Else2 → tie.Start
 start c = c .before .before .before .before .before .before .before
@@ -28,8 +28,9 @@ standing c = sym (c .before .stands .ensures) ∙ not-false (c .before .stands .
 -- the test of window and totals is one of what is listed
 fit : (c : tie.After-undamaged-entry) → c .undamaged-entry .result ≡ undamagedEntry (listedEntry (listing (start (c .before .before .before .before .before .before))))
 fit c =
-    let m = start (c .before .before .before .before .before .before) .args .moved in
-    c .undamaged-entry .ensures ∙ ap (λ (w : View). undamagedEntry (record { window = w; accepted = m .accepted; bytes = m .bytes })) (c .before .listed-window .ensures)
+    let a = start (c .before .before .before .before .before .before) .args in
+    let m = a .moved in
+    c .undamaged-entry .ensures ∙ ap (λ (w : View). undamagedEntry (record { window = w; accepted = m .accepted; bytes = m .bytes; counters = a .counters })) (c .before .listed-window .ensures)
 
 returns : tie.Need-returns
 returns c =
@@ -66,8 +67,8 @@ returns-5 c =
     taken-up (s .args .table .now) (listing s) (omega arith) (standing e)
     (sym (k .ensures) ∙ not-false (k .result) (u .before .before .if3 .left))
     (sym (fit u) ∙ not-false (u .undamaged-entry .result) (c .before .before .before .before .if4 .left))
-    (c .before .before .settle .ensures
-    ∙ ap (λ (w : View). settled (s .args .table .now) (s .args .named .slot) (record { window = w; accepted = m .accepted; bytes = m .bytes })) (u .before .listed-window .ensures))
+    (c .before .before .restore .ensures
+    ∙ ap (λ (w : View). restored (s .args .table .now) (s .args .named .slot) (record { window = w; accepted = m .accepted; bytes = m .bytes; counters = s .args .counters })) (u .before .listed-window .ensures))
 
 pub take-up-spec : {M : Type 1} → statement M
 take-up-spec =
