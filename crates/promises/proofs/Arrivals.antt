@@ -5,7 +5,7 @@ use mathlib.Core.Path.{_≡_, refl, sym, ap, subst, _∙_}
 use mathlib.Core.Bool.{Bool, true, false, true≢false, false≢true, not-eq-not, cond, _&&_}
 use mathlib.Core.List.{List, [], _∷_, _++_}
 use Prim.Native.Nat.{ℕ, _≤_, _<_}
-use native.Mathlib.Decide.{ℕ-discrete}
+use native.Mathlib.Decide.{ℕ-discrete, decLt}
 use native.Mathlib.Omega.{arith}
 use borrow.Author.Tests.{eq-eqb, ltb-false, le-ltb}
 use lib.Dec.{eqb, ltb}
@@ -15,34 +15,35 @@ use Rattle.octets.specs.Octets.{Bytes}
 use Rattle.answers.specs.Answers.{outputRoom}
 use Rattle.answers.specs.declared.Answer.{Answer}
 use Rattle.window.specs.Window.{floorAt}
-use Rattle.window.specs.Entry.{Entry, taken}
+use Rattle.window.specs.Entry.{taken}
 use Rattle.window.proofs.Floor.{floor-mono}
 use Rattle.format.specs.Header.{readOf, keyIdBytes, payloadLength}
 use Rattle.format.specs.Suite.{numberOf}
 use Rattle.format.specs.declared.header.Header.{Header}
 use Rattle.format.specs.declared.header.Parsed.the-variants.{Read}
 use Rattle.message.specs.Sealing.{right}
-use Rattle.slots.specs.Table.{slotOf, entryOf, keyDataOf, settled, replaced, slotLength, slotCount, tableLength}
+use Rattle.slots.specs.Table.{slotOf, entryOf, keyDataOf, raised, replaced, slotCount, tableLength}
 use Rattle.slots.specs.Record.{undamaged}
 use Rattle.slots.proofs.Replacing.{length-replaced, slot-own, slot-other}
-use Rattle.slots.proofs.Settled.{settled-keys, settledSlot, length-slot, as-replaced}
+use Rattle.slots.proofs.Rewriting.{Rewritten, raised-rewritten, rewritten-length, rewritten-slot, rewritten-keys}
+use Rattle.slots.proofs.Settled.{settled-rewritten}
 use Rattle.slots.proofs.Slots.{slot-length}
 use Rattle.lookup.specs.Lookup.{matches, leadsTo}
 use Rattle.lookup.specs.declared.Found.the-variants.{At}
 use Rattle.lookup.proofs.Firsts.{first-same, leads-small, leads-matches}
 use Rattle.lookup.proofs.Matching.{match-facts, same-matches}
-use Rattle.gateway.specs.Receive.{Received, received, led, handedOut}
-use Rattle.gateway.proofs.Arrivals.{Led}
+use Rattle.gateway.specs.Receive.{Received, received, led, handedOut, counterOf}
+use Rattle.gateway.proofs.Arrivals.{Led, counter-within}
 use Rattle.gateway.proofs.Cascade.{of-received}
 use Rattle.promises.specs.Calls.{Call, arrival, install, remove, change, load, called, after, run, results}
 use Rattle.promises.specs.Captures.{Arrives, AllArrive, NothingHanded, Spared, BooksOnce}
 use Rattle.promises.specs.Counted.{Beginning, standing, Message, Told, apart, below, used, forged, new, tested, told, toldFrom, toldBy, numbers, highestSince, isIn, isBelow, isUsed, isOf, isNew}
-use Rattle.promises.specs.History.{Begins, GoesOn, handed, one, replyTo}
+use Rattle.promises.specs.History.{Begins, GoesOn, handed, one, replyTo, ButCounters, TableButCounters}
 use Rattle.promises.proofs.Beginnings.{slot-begins}
 use Rattle.promises.proofs.Counting.{stays-in, counted-new, counted-told}
 use Rattle.promises.proofs.Held.{own-leads}
 use Rattle.promises.proofs.History.{history, leads-of}
-use Rattle.promises.proofs.Refusals.{receive-keeps}
+use Rattle.promises.proofs.Refusals.{receive-keeps, raised-around}
 use Rattle.promises.proofs.Runs.{begun, run-append}
 use Rattle.promises.proofs.Steps.{Stands, step}
 
@@ -67,43 +68,45 @@ module _ (t : List ℕ) (long : length t ≡ tableLength) where
   unmoved : Unmoved t t
   unmoved = record { long = long; leads = λ flag keyId source. refl; harmed = λ i small e. refl }
 
-  -- window and totals, into a slot that was found and is undamaged
-  module _ (i flag : ℕ) (keyId source : List ℕ) (l : leadsTo t flag keyId source ≡ At i) (e : Entry) where
+  -- a slot that was found and is undamaged is written, behind what an install settled
+  module _ (i flag : ℕ) (keyId source : List ℕ) (l : leadsTo t flag keyId source ≡ At i) {s u : List ℕ} (w : Rewritten t i s u) where
     small : i < slotCount
     small = leads-small t i flag keyId source l
 
-    abbrev slot : List ℕ
-    slot = settledSlot t i e long small
-
-    full : length slot ≡ slotLength
-    full = length-slot t i e long small
-
-    alike : (f : ℕ) (k s : List ℕ) → matches f k s slot ≡ matches f k s (slotOf t i)
-    alike f k s =
+    alike : (f : ℕ) (k o : List ℕ) → matches f k o s ≡ matches f k o (slotOf t i)
+    alike f k o =
         let a = match-facts flag keyId source (slotOf t i) (leads-matches t i flag keyId source l) in
-        same-matches (settled-keys (slotOf t i) e (slot-length t i long small) (a .keyid-short) (a .source-short)) f k s
+        same-matches (rewritten-keys t i long small w (a .keyid-short) (a .source-short)) f k o
 
-    same-name : (f : ℕ) (k s : List ℕ) (j : ℕ) → j < slotCount → Dec (j ≡ i) → matches f k s (slotOf (replaced t i slot) j) ≡ matches f k s (slotOf t j)
-    same-name f k s j within (yes same) = rw (same, slot-own t i slot long small full) (alike f k s)
-    same-name f k s j within (no other) = rw (slot-other t i slot long small full j within other)
+    same-name : (f : ℕ) (k o : List ℕ) (j : ℕ) → j < slotCount → Dec (j ≡ i) → matches f k o (slotOf (replaced t i s) j) ≡ matches f k o (slotOf t j)
+    same-name f k o j within (yes same) = rw (same, slot-own t i s long small (w .full)) (alike f k o)
+    same-name f k o j within (no other) = rw (slot-other t i s long small (w .full) j within other)
 
-    moved : undamaged (slotOf t i) ≡ true → Unmoved t (settled t i e)
+    moved : undamaged (slotOf t i) ≡ true → Unmoved t u
     unfolding leadsTo
     moved unharmed =
-        rw (as-replaced t i e long small)
+        subst (Unmoved t) (sym (w .is))
         (record {
-          long = length-replaced t i slot long small full;
-          leads = λ f k s. first-same _ _ slotCount 0 (λ j within. same-name f k s j within (ℕ-discrete j i));
-          harmed = λ j within harm. slot-other t i slot long small full j within (λ same. true≢false (sym unharmed ∙ rw same at harm));
+          long = length-replaced t i s long small (w .full);
+          leads = λ f k o. first-same _ _ slotCount 0 (λ j within. same-name f k o j within (ℕ-discrete j i));
+          harmed = λ j within harm. slot-other t i s long small (w .full) j within (λ same. true≢false (sym unharmed ∙ rw same at harm));
         })
 
   comes : (m source out : List ℕ) → Comes t m source out (received t m source out)
   unfolding handedOut
   comes m source out =
       of-received (Comes t m source out) t out (λ n some small. record { unmoved = unmoved; opens = λ z. absurd (omega arith) }) m source
-      (λ h i led unharmed.
+      (λ h i led unharmed n least most.
+      let small = leads-small t i (h .flag) (keyIdBytes h m) source (led .found) in
+      let within = counter-within n in
       record {
-        unmoved = moved i (h .flag) (keyIdBytes h m) source (led .found) (taken (entryOf (slotOf t i)) (h .seqnum) (payloadLength h m)) unharmed;
+        unmoved = moved i (h .flag) (keyIdBytes h m) source (led .found) (raised-rewritten t i long small (counterOf n) (within .0) (within .1)) unharmed;
+        opens = λ z. absurd (omega arith);
+      })
+      (λ h i led unharmed.
+      let small = leads-small t i (h .flag) (keyIdBytes h m) source (led .found) in
+      record {
+        unmoved = moved i (h .flag) (keyIdBytes h m) source (led .found) (settled-rewritten t i (taken (entryOf (slotOf t i)) (h .seqnum) (payloadLength h m)) long small) unharmed;
         opens = λ z. record { header = h; led = led; unharmed = unharmed };
       })
 
@@ -253,16 +256,51 @@ again t long pre (c ∷ cs) others before all between u e =
 pub nothing-again : (t : List ℕ) → length t ≡ tableLength → (cs others : List Call) → AllArrive cs → AllArrive others → NothingHanded (results (run (run t cs) others) cs)
 nothing-again t long cs others all between = again t long [] cs others tt all between (run (run t cs) others) refl
 
--- and where nothing is handed out nothing moves.
-pub nothing-moves : (t : List ℕ) (cs : List Call) → AllArrive cs → NothingHanded (results t cs) → run t cs ≡ t
-nothing-moves t [] all none = refl
-nothing-moves t (arrival m source out ∷ cs) all none =
-    let same = receive-keeps t m source out .refusal (none .0) .1 .0 in
-    ap (λ (x : List ℕ). run x cs) same ∙ nothing-moves t cs (all .1) (subst (λ (x : List ℕ). NothingHanded (results x cs)) same (none .1))
-nothing-moves t (install k f ∷ cs) all none = absurd (all .0)
-nothing-moves t (remove j ∷ cs) all none = absurd (all .0)
-nothing-moves t (change j k f ∷ cs) all none = absurd (all .0)
-nothing-moves t (load text ∷ cs) all none = absurd (all .0)
+-- and where nothing is handed out nothing moves but counters.
+but-none : (s : List ℕ) → ButCounters s s
+but-none s = record { before = refl; behind = refl }
+
+at-slot : (t : List ℕ) (long : length t ≡ tableLength) (i : ℕ) (small : i < slotCount) {s u : List ℕ} → Rewritten t i s u → ButCounters (slotOf t i) s
+    → (j : ℕ) → j < slotCount → Dec (j ≡ i) → ButCounters (slotOf t j) (slotOf u j)
+at-slot t long i small w own j inside (yes same) = rw (same, rewritten-slot t i long small w) own
+at-slot t long i small {s} w own j inside (no other) =
+    rw (ap (λ (x : List ℕ). slotOf x j) (w .is) ∙ slot-other t i s long small (w .full) j inside other) (but-none (slotOf t j))
+
+refused-moves : (t : List ℕ) → length t ≡ tableLength → (m source out : List ℕ) → (received t m source out .answer .reply ≡ 0 → ⊥) → TableButCounters t (received t m source out .table)
+refused-moves t long m source out denied = by (decLt (received t m source out .answer .reply) 9)
+  where
+    r : Received
+    r = received t m source out
+
+    by : Dec (r .answer .reply < 9) → TableButCounters t (r .table)
+    by (yes low) = subst (TableButCounters t) (sym (receive-keeps t m source out .keeps denied low)) (record { long = long; slots = λ j within. but-none (slotOf t j) })
+    by (no high) =
+        let c = receive-keeps t m source out .counts (omega arith) in
+        let i = c .slot in
+        let at = counterOf (r .answer .reply) in
+        let small = leads-small t i (c .header .flag) (keyIdBytes (c .header) m) source (c .led .found) in
+        let within = counter-within (r .answer .reply) in
+        let w = raised-rewritten t i long small at (within .0) (within .1) in
+        let own = raised-around (slotOf t i) at (slot-length t i long small) (within .0) (within .1) in
+        subst (TableButCounters t) (sym (c .leaves)) (record { long = rewritten-length t i long small w; slots = λ j inside. at-slot t long i small w own j inside (ℕ-discrete j i) })
+
+pub nothing-moves : (t : List ℕ) → length t ≡ tableLength → (cs : List Call) → AllArrive cs → NothingHanded (results t cs) → TableButCounters t (run t cs)
+nothing-moves t long [] all none = record { long = long; slots = λ i small. but-none (slotOf t i) }
+nothing-moves t long (arrival m source out ∷ cs) all none =
+    let first = refused-moves t long m source out (none .0) in
+    let rest = nothing-moves (received t m source out .table) (first .long) cs (all .1) (none .1) in
+    record {
+      long = rest .long;
+      slots =
+          λ i small.
+          let p = first .slots i small in
+          let q = rest .slots i small in
+          record { before = q .before ∙ p .before; behind = q .behind ∙ p .behind };
+    }
+nothing-moves t long (install k f ∷ cs) all none = absurd (all .0)
+nothing-moves t long (remove j ∷ cs) all none = absurd (all .0)
+nothing-moves t long (change j k f ∷ cs) all none = absurd (all .0)
+nothing-moves t long (load text ∷ cs) all none = absurd (all .0)
 
 -- ---- no number twice at one slot
 

@@ -57,6 +57,7 @@ module _ (t : List ℕ) (long : length t ≡ tableLength) (k : KeyData) (f : Fra
         used = λ n l. ap (λ (e : Entry). marked (e .window) n) entry ∙ no-mark (freshOf f) n refl;
         accepted = ap (λ (e : Entry). e .accepted) entry;
         bytes = ap (λ (e : Entry). e .bytes) entry;
+        counters = ap (λ (e : Entry). e .counters) entry;
       }
 
   -- an install answered 0
@@ -92,4 +93,5 @@ slot-begins t long i leads unharmed = record {
   used = λ n l. rw (le-ltb n (floorOf (windowOf (slotOf t i))) l);
   accepted = refl;
   bytes = refl;
+  counters = refl;
 }

@@ -19,13 +19,13 @@ use Rattle.capture.specs.declared.order.Order.{Order}
 use Rattle.feed.specs.Report.{Turn, blank, broughtBy, turnOf, tableAfter, textRoom, IsReported, refused, readIn, reported}
 use Rattle.feed.specs.declared.Summary.{Summary}
 use Rattle.feed.proofs.Turns.{turn-arrival, turn-nothing, turn-silent}
-use Rattle.promises.specs.Calls.{Call, arrival, run, results, Trace, lastOf}
+use Rattle.promises.specs.Calls.{Call, arrival, install, remove, change, load, AllOfBytes, run, results, Trace, lastOf}
 use Rattle.promises.specs.Captures.{callsOf, callsIn, AllArrive, NothingHanded, AllRefused, BooksOnce}
 use Rattle.promises.specs.Counted.{Beginning, toldBy, counted}
-use Rattle.promises.specs.History.{Begins, handedBy, Accounts}
+use Rattle.promises.specs.History.{Begins, handedBy, TableButCounters, Accounts}
 use Rattle.promises.proofs.Arrivals.{arrivals-go-on, arrivals-append, nothing-again, nothing-moves, books-once}
 use Rattle.promises.proofs.History.{history, all-handed}
-use Rattle.promises.proofs.Runs.{run-append}
+use Rattle.promises.proofs.Runs.{run-long, run-append}
 use Rattle.promises.proofs.Traces.{trace-run, results-trace, trace-append, last-append}
 
 -- ---- the calls of a file
@@ -103,6 +103,14 @@ report-traced t cs rs trace file out room r =
       last-append t rs qs ∙ trace-run last (callsIn file) qs further ∙ sym (r .leaves ∙ reported-run last file out room),
     )
 
+arrivals-bytes : (cs : List Call) → AllArrive cs → AllOfBytes cs
+arrivals-bytes [] all = tt
+arrivals-bytes (arrival m source out ∷ cs) all = (all .0, arrivals-bytes cs (all .1))
+arrivals-bytes (install k f ∷ cs) all = absurd (all .0)
+arrivals-bytes (remove j ∷ cs) all = absurd (all .0)
+arrivals-bytes (change j k f ∷ cs) all = absurd (all .0)
+arrivals-bytes (load text ∷ cs) all = absurd (all .0)
+
 -- ---- what an auditor reads off it
 
 -- The history of a slot goes on through a report: exactly the counted messages of the file are handed out, and the totals are those of demand 3.
@@ -114,15 +122,15 @@ history-captured {b} {i} {t} begins file out bytes room =
 
 module _ (t : List ℕ) (long : length t ≡ tableLength) where
   -- The same file read a second time, whatever arrivals came between, hands out nothing, on any table: no line of it has a payload, and the
-  -- table is left as it was found.
+  -- table is left as it was found but for counters of refused arrivals.
   pub read-twice : (file out : List ℕ) → Bytes file → textRoom ≤ length out → (others : List Call) → AllArrive others → let then = run (reported t file out .table) others in
-      NothingHanded (results then (callsIn file)) × AllRefused then (recordsOf file) × ((other : List ℕ) → textRoom ≤ length other → reported then file other .table ≡ then)
+      NothingHanded (results then (callsIn file)) × AllRefused then (recordsOf file) × ((other : List ℕ) → textRoom ≤ length other → TableButCounters then (reported then file other .table))
   read-twice file out bytes room others between =
       let all = calls-arrive file bytes in
       let found = run (run t (callsIn file)) others in
       let none = nothing-again t long (callsIn file) others all between in
       rw (reported-run t file out room)
-      (none, lines-refused found (recordsOf file) none, λ other enough. reported-run found file other enough ∙ nothing-moves found (callsIn file) all none)
+      (none, lines-refused found (recordsOf file) none, λ other enough. rw (reported-run found file other enough) (nothing-moves found (run-long (run t (callsIn file)) (run-long t long (callsIn file) (arrivals-bytes (callsIn file) all)) others (arrivals-bytes others between)) (callsIn file) all none))
 
   -- Two files, read one after the other, are the calls of both, and these book no number twice. That holds of any two files, so in either order.
   pub two-files : (first second out other : List ℕ) → Bytes first → Bytes second → textRoom ≤ length out → textRoom ≤ length other

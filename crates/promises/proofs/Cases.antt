@@ -12,7 +12,8 @@ use Rattle.numbers.proofs.Tests.{and-left, and-right}
 use Rattle.answers.specs.Answers.{outputRoom}
 use Rattle.octets.specs.Octets.{Bytes}
 use Rattle.window.specs.Window.{View, floorOf, judge, verdictOf, acceptOf}
-use Rattle.window.specs.Entry.{Entry, taken}
+use Rattle.window.specs.Counters.{oneReplay}
+use Rattle.window.specs.Entry.{Entry, taken, counting}
 use Rattle.format.specs.Header.{readOf, seqNumIn, payloadLength}
 use Rattle.format.specs.Suite.{numberOf}
 use Rattle.format.specs.declared.header.Header.{Header}
@@ -25,7 +26,7 @@ use Rattle.gateway.specs.Receive.{received, replyOf}
 use Rattle.promises.specs.Calls.{Call, arrival, install, remove, change, load, called}
 use Rattle.promises.specs.Cases.{Step, repliedTo, entryAfter, Turns, goes, Follows, Like, Row}
 use Rattle.promises.specs.Counted.{Beginning, Message, Told, isBelow, isUsed, isOf, tested, told, isGenuine}
-use Rattle.promises.specs.History.{Begins, countedOf, replyTo}
+use Rattle.promises.specs.History.{Begins, entryBy, replyTo}
 use Rattle.promises.proofs.Runs.{begun}
 use Rattle.promises.proofs.Steps.{Stands, replied, step}
 use Rattle.promises.proofs.Counting.{verdict-agrees}
@@ -42,9 +43,9 @@ module _ {b : Beginning} {i : ℕ} {t : List ℕ} {past : List Told} (now : Stan
   -- by the two tests on its number
   by-tests : (x : Message) (low met : Bool) → told b past call ≡ tested low met true x → verdictOf (entry .window) (x .number) ≡ judge low met
       → called t call .answer .reply ≡ replyTo (told b past call) → Turns entry i (x .number) (x .payload) (called t call)
-  by-tests x true met w v r = record { replies = r ∙ rw (w, v); leaves = rw v (ap entryOf (step now call bytes refl .untouched (ap countedOf w))) }
-  by-tests x false true w v r = record { replies = r ∙ rw (w, v); leaves = rw v (ap entryOf (step now call bytes refl .untouched (ap countedOf w))) }
-  by-tests x false false w v r = record { replies = r ∙ rw (w, v); leaves = rw v (step now call bytes refl .takes x (ap countedOf w)) }
+  by-tests x true met w v r = record { replies = r ∙ rw (w, v); leaves = rw v (step now call bytes refl .moves ∙ ap (λ (z : Told). entryBy z entry) w) }
+  by-tests x false true w v r = record { replies = r ∙ rw (w, v); leaves = rw v (step now call bytes refl .moves ∙ ap (λ (z : Told). entryBy z entry) w) }
+  by-tests x false false w v r = record { replies = r ∙ rw (w, v); leaves = rw v (step now call bytes refl .moves ∙ ap (λ (z : Told). entryBy z entry) w) }
 
   of-header : (h : Header) → readOf m ≡ Read h → isGenuine (b .keys) (Read h) m source ≡ true → Turns entry i (h .seqnum) (payloadLength h m) (called t call)
   of-header h read g =
@@ -83,11 +84,11 @@ replies-alike n l = ap (λ (w : View). replyOf (verdictOf w n)) (l .window)
 
 alike-after : {e f : Entry} (n a b : ℕ) → Like e f → Like (entryAfter e n a) (entryAfter f n b)
 alike-after {e} {f} n a b l =
-    subst (λ (x : ℕ). Like (cond (eqb x 0) (taken e n a) e) (entryAfter f n b)) (sym (replies-alike n l)) (by (eqb (repliedTo f n) 0))
+    subst (λ (x : ℕ). Like (cond (eqb x 0) (taken e n a) (counting e (oneReplay (e .counters)))) (entryAfter f n b)) (sym (replies-alike n l)) (by (eqb (repliedTo f n) 0))
   where
-    by : (x : Bool) → Like (cond x (taken e n a) e) (cond x (taken f n b) f)
+    by : (x : Bool) → Like (cond x (taken e n a) (counting e (oneReplay (e .counters)))) (cond x (taken f n b) (counting f (oneReplay (f .counters))))
     by true = record { window = ap (λ (w : View). acceptOf w n) (l .window); accepted = ap (λ (y : ℕ). y + 1) (l .accepted) }
-    by false = l
+    by false = record { window = l .window; accepted = l .accepted }
 
 module _ {b : Beginning} {i : ℕ} where
   goes-on : {t : List ℕ} {past : List Told} (e : Entry) → Stands b i t past → Like (entryOf (slotOf t i)) e

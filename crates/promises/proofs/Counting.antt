@@ -19,14 +19,15 @@ use Rattle.format.specs.declared.header.Parsed.the-variants.{Read, BadLength, B
 use Rattle.format.proofs.Room.{read-room}
 use Rattle.message.specs.Sealing.{right}
 use Rattle.window.specs.Window.{floorOf, marked, judge, verdictOf}
-use Rattle.window.specs.Entry.{Entry, taken, longestPayload}
+use Rattle.window.specs.declared.Counters.{Counters}
+use Rattle.window.specs.Entry.{Entry, taken, counting, longestPayload}
 use Rattle.window.specs.declared.Verdict.the-variants.{Admissible}
 use Rattle.window.proofs.Accept.{Takes, accept-marked, accept-rises}
 use Rattle.window.proofs.Entries.{UndamagedEntry, taken-undamaged}
 use Rattle.window.proofs.Undamaged.{undamaged-facts, takes}
 use Rattle.promises.specs.Calls.{Call, arrival, install, remove, change, load}
-use Rattle.promises.specs.Counted.{Beginning, Message, Told, apart, below, used, forged, new, messages, numbers, isIn, highestSince, isBelow, isUsed, isOf, tested, toldOf, told, toldFrom, isGenuine, isCounted, isNew}
-use Rattle.promises.specs.History.{nothing, one, noted, countedOf, different, total}
+use Rattle.promises.specs.Counted.{Beginning, Message, Told, apart, below, used, forged, new, messages, numbers, isIn, countersSince, highestSince, isBelow, isUsed, isOf, tested, toldOf, told, toldFrom, isGenuine, isCounted, isNew}
+use Rattle.promises.specs.History.{nothing, one, noted, countedOf, countersBy, different, total}
 
 pub record Agrees (b : Beginning) (e : Entry) (past : List Told) : Type 0 where
   pub framed : e .window .frame ≡ b .frame
@@ -35,6 +36,7 @@ pub record Agrees (b : Beginning) (e : Entry) (past : List Told) : Type 0 where
   pub once : different (numbers past) ≡ numbers past
   pub number : e .accepted ≡ b .accepted + length (messages past)
   pub sum : e .bytes ≡ b .bytes + total (messages past)
+  pub counters : e .counters ≡ countersSince b past
   pub unharmed : UndamagedEntry e
 
 -- what is counted of a call is added to what was counted
@@ -45,6 +47,17 @@ grown used past = refl
 grown forged past = refl
 grown (new x) past = refl
 
+-- one call more moves the counters by what is told of it
+pub same-counters : {r s f g : ℕ} → r ≡ s → f ≡ g → _≡_ {A = Counters} (record { replays = r; forged = f }) (record { replays = s; forged = g })
+same-counters p q = rw (p, q)
+
+counters-grow : (b : Beginning) (past : List Told) (w : Told) → countersBy w (countersSince b past) ≡ countersSince b (w ∷ past)
+counters-grow b past apart = same-counters (omega arith) (omega arith)
+counters-grow b past below = same-counters (omega arith) (omega arith)
+counters-grow b past used = same-counters (omega arith) (omega arith)
+counters-grow b past forged = same-counters (omega arith) (omega arith)
+counters-grow b past (new x) = same-counters (omega arith) (omega arith)
+
 module _ {b : Beginning} {e : Entry} {past : List Told} (a : Agrees b e past) where
   -- the window's verdict on a number is what the counted numbers and the beginning say of it
   pub verdict-agrees : (n : ℕ) → verdictOf (e .window) n ≡ judge (isBelow b past n) (isUsed b past n)
@@ -54,17 +67,27 @@ module _ {b : Beginning} {e : Entry} {past : List Told} (a : Agrees b e past) wh
       by true q = refl
       by false q = ap (judge false) (a .marks n (ltb-false n (floorOf (e .window)) q))
 
-  -- what is not counted moves nothing
-  pub still-agrees : (w : Told) → countedOf w ≡ nothing → Agrees b e (w ∷ past)
+  -- what is not counted moves nothing but counters
+  pub still-agrees : (w : Told) → countedOf w ≡ nothing → Agrees b (counting e (countersBy w (e .counters))) (w ∷ past)
   still-agrees w none =
-      let same : messages (w ∷ past) ≡ messages past = sym (grown w past) ∙ rw none in record {
+      let same : messages (w ∷ past) ≡ messages past = sym (grown w past) ∙ rw none in
+      let counters : countersBy w (e .counters) ≡ countersSince b (w ∷ past) = ap (countersBy w) (a .counters) ∙ counters-grow b past w in
+      record {
         framed = a .framed;
         high = rw same (a .high);
         marks = λ j h. rw same (a .marks j h);
         once = rw same (a .once);
         number = rw same (a .number);
         sum = rw same (a .sum);
-        unharmed = a .unharmed;
+        counters = counters;
+        unharmed = record {
+          window = a .unharmed .window;
+          enough = a .unharmed .enough;
+          few = a .unharmed .few;
+          light = a .unharmed .light;
+          few-replays = omega (arith, ap (λ (c : Counters). c .replays) counters);
+          few-forged = omega (arith, ap (λ (c : Counters). c .forged) counters);
+        };
       }
 
   pub taken-agrees : (x : Message) → verdictOf (e .window) (x .number) ≡ Admissible → x .number < 2 ^ 48 → x .payload ≤ longestPayload
@@ -82,6 +105,7 @@ module _ {b : Beginning} {e : Entry} {past : List Told} (a : Agrees b e past) wh
         once = rw (neither-left (isIn n (numbers past)) _ unused, a .once);
         number = omega (arith, a .number);
         sum = omega (arith, a .sum);
+        counters = a .counters ∙ counters-grow b past (new x);
         unharmed = taken-undamaged e n (x .payload) (a .unharmed) v small short;
       }
 

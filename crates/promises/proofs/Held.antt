@@ -3,7 +3,7 @@
 use mathlib.Core.Path.{_≡_, refl, sym, ap, subst, _∙_}
 use mathlib.Core.Bool.{Bool, true, _&&_, _||_}
 use mathlib.Core.List.{List, []}
-use Prim.Native.Nat.{ℕ, _<_}
+use Prim.Native.Nat.{ℕ, _≤_, _<_}
 use native.Mathlib.Decide.{ℕ-discrete}
 use native.Mathlib.Omega.{arith}
 use borrow.Author.Tests.{eqb-true, eq-eqb}
@@ -12,16 +12,14 @@ use lib.ListN.{length}
 use Rattle.numbers.proofs.Tests.{and-left, and-right, and-both}
 use Rattle.octets.specs.Octets.{same}
 use Rattle.octets.proofs.Same.{same-true}
-use Rattle.window.specs.Entry.{Entry}
 use Rattle.window.proofs.Entries.{UndamagedEntry, entry-test}
 use Rattle.format.specs.KeyData.{KeyData, soundOf}
 use Rattle.format.proofs.Soundness.{Sound, sound-test}
-use Rattle.slots.specs.Table.{slotOf, entryOf, keyDataOf, settled, replaced, slotLength, slotCount, tableLength}
+use Rattle.slots.specs.Table.{slotOf, entryOf, keyDataOf, replaced, slotLength, slotCount, tableLength, keyIdLengthOf, keyIdRoom, sourceLengthOf, sourceRoom}
 use Rattle.slots.specs.Record.{undamaged}
 use Rattle.slots.proofs.Damage.{undamaged-by-entry}
 use Rattle.slots.proofs.Replacing.{length-replaced, slot-own, slot-other}
-use Rattle.slots.proofs.Settled.{SameKeys, same-keydata, settled-keys, settledSlot, length-slot, as-replaced}
-use Rattle.slots.proofs.Slots.{slot-length}
+use Rattle.slots.proofs.Rewriting.{same-keydata, Rewritten, rewritten-keys}
 use Rattle.lookup.specs.Lookup.{matches, leadsTo}
 use Rattle.lookup.specs.declared.Found.the-variants.{At}
 use Rattle.lookup.proofs.Firsts.{found-too, leads-small, leads-matches}
@@ -155,20 +153,24 @@ module _ {k : KeyData} {i : ℕ} {t : List ℕ} (held : Held k i t) where
       pub held-beside : Held k i next
       held-beside = held-replaced (rw slot-beside (held .keys)) (rw slot-beside held-matches)
 
-  -- window and totals, into the slot
-  module _ (e : Entry) where
-    abbrev slot : List ℕ
-    slot = settledSlot t i e (held .long) held-small
+  -- into the slot, behind what an install settled
+  pub held-rewritten : {s u : List ℕ} → Rewritten t i s u → Held k i u
+  held-rewritten {s} {u} w =
+      let long = held .long in
+      let small = held-small in
+      let keys = rewritten-keys t i long small w (held-alike .keyid-short) (held-alike .source-short) in
+      let matched = same-matches keys (k .flag) (k .keyId) (k .source) in
+      let is = slot-own t i s long small (w .full) in
+      subst (Held k i) (sym (w .is))
+      (held-replaced i small s (w .full) (λ h. sym matched ∙ h) (ap keyDataOf is ∙ same-keydata keys ∙ held .keys) (rw is (matched ∙ held-matches)))
 
-    same-keys : SameKeys (slotOf t i) slot
-    same-keys = settled-keys (slotOf t i) e (slot-length t i (held .long) held-small) (held-alike .keyid-short) (held-alike .source-short)
+  -- and into another, of which KeyId and source are within their room
+  module _ (j : ℕ) (small : j < slotCount) {s u : List ℕ} (w : Rewritten t j s u) (keyid : keyIdLengthOf (slotOf t j) ≤ keyIdRoom) (source : sourceLengthOf (slotOf t j) ≤ sourceRoom) (other : j ≡ i → ⊥) where
+    mild-there : isNamed k s ≡ true → isNamed k (slotOf t j) ≡ true
+    mild-there h = sym (same-matches (rewritten-keys t j (held .long) small w keyid source) (k .flag) (k .keyId) (k .source)) ∙ h
 
-    pub held-settled : Held k i (settled t i e)
-    held-settled =
-        let long = held .long in
-        let small = held-small in
-        let n = length-slot t i e long small in
-        let matched = same-matches same-keys (k .flag) (k .keyId) (k .source) in
-        let is = slot-own t i slot long small n in
-        subst (Held k i) (sym (as-replaced t i e long small))
-        (held-replaced i small slot n (λ h. sym matched ∙ h) (ap keyDataOf is ∙ same-keydata same-keys ∙ held .keys) (rw is (matched ∙ held-matches)))
+    pub held-aside : Held k i u
+    held-aside = subst (Held k i) (sym (w .is)) (held-beside j small s (w .full) mild-there other)
+
+    pub slot-aside : slotOf u i ≡ slotOf t i
+    slot-aside = ap (λ (x : List ℕ). slotOf x i) (w .is) ∙ slot-beside j small s (w .full) mild-there other

@@ -4,16 +4,18 @@
 use mathlib.Core.Path.{_≡_, refl, sym, ap, subst, _∙_}
 use mathlib.Core.Bool.{Bool, true, false, cond, _&&_, _||_, true≢false, not-eq-not}
 use mathlib.Core.List.{List, [], _∷_, _++_}
+use mathlib.Core.Logic.{_⊎_, inl, inr}
 use Prim.Native.Nat.{ℕ, _+_}
 use native.Mathlib.Omega.{arith}
 use borrow.Author.Tests.{eq-eqb}
-use lib.Dec.{eqb, ltb}
+use lib.Dec.{eqb, ltb, lit≤}
 use lib.ListN.{length}
 use Rattle.answers.specs.Answers.{outputRoom}
 use Rattle.octets.specs.Octets.{Bytes, put}
 use Rattle.numbers.proofs.Tests.{either}
 use Rattle.window.specs.declared.Frame.{Frame}
-use Rattle.window.specs.Entry.{taken}
+use Rattle.window.specs.Counters.{cut}
+use Rattle.window.specs.Entry.{taken, counting}
 use Rattle.format.specs.Header.{readOf, payloadLength, keyIdBytes}
 use Rattle.format.specs.KeyData.{KeyData}
 use Rattle.format.specs.Suite.{numberOf}
@@ -21,26 +23,45 @@ use Rattle.format.specs.declared.header.Header.{Header}
 use Rattle.format.specs.declared.header.Parsed.{Parsed}
 use Rattle.format.specs.declared.header.Parsed.the-variants.{Read, BadLength, BadVersion, BadSuite, TooShort}
 use Rattle.message.specs.Sealing.{right, opened}
-use Rattle.slots.specs.Table.{slotOf, entryOf, tableLength}
+use Rattle.slots.specs.Table.{slotOf, countersOf, entryOf, raisedIn, slotLength, tableLength, replaysAt, forgedAt}
+use Rattle.slots.proofs.Slots.{slot-length}
 use Rattle.lookup.specs.Lookup.{leadsTo}
 use Rattle.lookup.specs.declared.Found.the-variants.{At}
 use Rattle.entries.specs.Install.{doneAt, installed}
 use Rattle.gateway.specs.Receive.{Received, kept, parsed, received}
 use Rattle.gateway.proofs.Cascade.{NotSeven, never-seven}
 use Rattle.promises.specs.Calls.{Call, arrival, install, OfBytes, AllOfBytes, called, after, run, results, Allowed, Trace, lastOf}
-use Rattle.promises.specs.Counted.{Beginning, fresh, Message, messages, numbers, highestOf, isIn, isBelow, isUsed, isOf, Told, apart, new, tested, toldOf, told, toldFrom, toldBy, counted, isGenuine}
-use Rattle.promises.specs.History.{Begins, nothing, one, handed, handedBy, Unended, GoesOn, countedOf, different, total, Accounts}
+use Rattle.promises.specs.Counted.{Beginning, fresh, Message, messages, numbers, highestOf, isIn, isReplay, isForgery, howMany, isBelow, isUsed, isOf, Told, apart, below, used, forged, new, tested, toldOf, told, toldFrom, toldBy, counted, isGenuine}
+use Rattle.promises.specs.History.{Begins, nothing, one, handed, handedBy, Unended, GoesOn, countedOf, slotBy, countersBy, entryBy, ButCounters, different, total, Accounts}
 use Rattle.promises.specs.Replies.{noneOf, receiveReplies, ledTo, isAt}
 use Rattle.promises.proofs.Beginnings.{install-begins}
 use Rattle.promises.proofs.Counting.{stays-in, counted-new, counted-told}
 use Rattle.promises.proofs.Genuine.{genuine-held}
-use Rattle.promises.proofs.Held.{names-facts, names-test, leads-here, leads-named}
+use Rattle.promises.proofs.Held.{held-small, names-facts, names-test, leads-here, leads-named}
+use Rattle.promises.proofs.Refusals.{raised-around}
 use Rattle.promises.proofs.Runs.{begun, stands-on, hands-on, accounts, run-long, run-append}
 use Rattle.promises.proofs.Steps.{Stands, arrives, step}
 use Rattle.promises.proofs.Traces.{allowed-called, trace-results, trace-run}
-use Rattle.promises.proofs.Worthless.{one-account}
+use Rattle.promises.proofs.Worthless.{nothing-given, one-account}
 
--- a history that begins in slot i of a table
+-- ---- what is not counted, in a slot
+
+told-entry : (w : Told) (s : List ℕ) → countedOf w ≡ nothing → entryBy w (entryOf s) ≡ counting (entryOf s) (countersBy w (countersOf s))
+told-entry apart s none = refl
+told-entry below s none = refl
+told-entry used s none = refl
+told-entry forged s none = refl
+told-entry (new x) s none = cc
+
+told-around : (w : Told) (s : List ℕ) → length s ≡ slotLength → countedOf w ≡ nothing → ButCounters s (slotBy w s)
+told-around apart s long none = record { before = refl; behind = refl }
+told-around below s long none = raised-around s replaysAt long (lit≤ tt) (lit≤ tt)
+told-around used s long none = raised-around s replaysAt long (lit≤ tt) (lit≤ tt)
+told-around forged s long none = raised-around s forgedAt long (lit≤ tt) (lit≤ tt)
+told-around (new x) s long none = absurd (nothing-given (sym none))
+
+-- ---- a history that begins in slot i of a table
+
 module _ {b : Beginning} {i : ℕ} {t : List ℕ} (begins : Begins b i t) where
   stands : (cs : List Call) → GoesOn i t cs → Stands b i (run t cs) (toldBy b cs)
   stands cs goes = stands-on (begun begins) cs goes
@@ -106,39 +127,66 @@ module _ {b : Beginning} {i : ℕ} {t : List ℕ} (begins : Begins b i t) where
         either NotSeven (ltb (length out) outputRoom) (kept (run t cs) out 1) (parsed (readOf message) (run t cs) message source out) (λ _. record { other = λ z. omega arith })
         (λ _. rw (read, leads) (never-seven (run t cs) i h message out (history cs goes .unharmed))) .other
 
-    -- A call that is counted leaves the entry with its message taken: the number in the window, 1 and the payload's length in the totals.
+    -- What is told of a call settles every byte of the slot after it, and so its entry;
+    pub slot-told : (c : Call) → GoesOn i (run t cs) (c ∷ []) → slotOf (after (run t cs) c) i ≡ slotBy (told b (toldBy b cs) c) (slotOf (run t cs) i)
+    slot-told c further = step (stands cs goes) c (further .0) (further .1) .leaves
+
+    pub entry-told : (c : Call) → GoesOn i (run t cs) (c ∷ []) → entryOf (slotOf (after (run t cs) c) i) ≡ entryBy (told b (toldBy b cs) c) (entryOf (slotOf (run t cs) i))
+    entry-told c further = step (stands cs goes) c (further .0) (further .1) .moves
+
+    -- a call that is counted leaves the entry with its message taken: the number in the window, 1 and the payload's length in the totals;
     pub counted-moves : (c : Call) → GoesOn i (run t cs) (c ∷ []) → (x : Message) → told b (toldBy b cs) c ≡ new x
         → entryOf (slotOf (after (run t cs) c) i) ≡ taken (entryOf (slotOf (run t cs) i)) (x .number) (x .payload)
-    counted-moves c further x is = step (stands cs goes) c (further .0) (further .1) .takes x (ap countedOf is)
+    counted-moves c further x is = entry-told c further ∙ ap (λ (w : Told). entryBy w (entryOf (slotOf (run t cs) i))) is
 
-    -- A call that is not counted leaves every byte of the slot.
-    pub uncounted-stays : (c : Call) → GoesOn i (run t cs) (c ∷ []) → countedOf (told b (toldBy b cs) c) ≡ nothing → slotOf (after (run t cs) c) i ≡ slotOf (run t cs) i
-    uncounted-stays c further e = step (stands cs goes) c (further .0) (further .1) .untouched e
+    -- a call that is not counted leaves every byte of the slot but those of its counters, and so window and totals;
+    pub uncounted-stays : (c : Call) → GoesOn i (run t cs) (c ∷ []) → countedOf (told b (toldBy b cs) c) ≡ nothing
+        → let s = slotOf (run t cs) i in
+        ButCounters s (slotOf (after (run t cs) c) i)
+        × (entryOf (slotOf (after (run t cs) c) i) ≡ counting (entryOf s) (countersBy (told b (toldBy b cs) c) (countersOf s)))
+    uncounted-stays c further none =
+        let s = slotOf (run t cs) i in
+        let held = stands cs goes .held in (
+          rw (slot-told c further) (told-around (told b (toldBy b cs) c) s (slot-length (run t cs) i (held .long) (held-small held)) none),
+          entry-told c further ∙ told-entry (told b (toldBy b cs) c) s none,
+        )
 
-    -- So does a message below the floor, or one whose number was counted or used before, genuine or not,
+    -- one that is nothing to the entry leaves every byte of the slot,
+    pub apart-stays : (c : Call) → GoesOn i (run t cs) (c ∷ []) → told b (toldBy b cs) c ≡ apart → slotOf (after (run t cs) c) i ≡ slotOf (run t cs) i
+    apart-stays c further is = slot-told c further ∙ ap (λ (w : Told). slotBy w (slotOf (run t cs) i)) is
+
+    -- and one below the floor, or whose number was counted or used before, genuine or not, every byte but those of the counter of replays, which has one more
+    -- or stays at its limit, if it moves at all;
     pub stale-stays : (message source out : List ℕ) → Bytes message → (h : Header) → readOf message ≡ Read h
         → (isBelow b (toldBy b cs) (h .seqnum) || isUsed b (toldBy b cs) (h .seqnum)) ≡ true
-        → slotOf (after (run t cs) (arrival message source out)) i ≡ slotOf (run t cs) i
+        → let s = slotOf (run t cs) i in let next = slotOf (after (run t cs) (arrival message source out)) i in (next ≡ s) ⊎ (next ≡ raisedIn replaysAt s)
     stale-stays message source out bytes h read old =
-        uncounted-stays (arrival message source out) (bytes, refl, tt)
-        (rw read (by (ltb (length out) outputRoom) (isOf (b .keys) h message source && eqb (b .keys .suite) (numberOf (h .suite))) (isBelow b (toldBy b cs) (h .seqnum))
-        (isUsed b (toldBy b cs) (h .seqnum)) (right h (b .keys) message) (record { number = h .seqnum; payload = payloadLength h message }) old))
+        by (ltb (length out) outputRoom) (isOf (b .keys) h message source && eqb (b .keys .suite) (numberOf (h .suite))) (isBelow b (toldBy b cs) (h .seqnum))
+        (isUsed b (toldBy b cs) (h .seqnum)) (right h (b .keys) message) (record { number = h .seqnum; payload = payloadLength h message }) old
+        (rw read at (slot-told (arrival message source out) (bytes, refl, tt)))
       where
-        by : (short mine low met icv : Bool) (x : Message) → (low || met) ≡ true → countedOf (cond short apart (cond mine (tested low met icv x) apart)) ≡ nothing
-        by true mine low met icv x e = refl
-        by false false low met icv x e = refl
-        by false true true met icv x e = refl
-        by false true false true icv x e = refl
-        by false true false false icv x e = absurd (true≢false (sym e))
+        next : List ℕ
+        next = slotOf (after (run t cs) (arrival message source out)) i
 
-    -- and a message that leads elsewhere.
+        s : List ℕ
+        s = slotOf (run t cs) i
+
+        by : (short mine low met icv : Bool) (x : Message) → (low || met) ≡ true → next ≡ slotBy (cond short apart (cond mine (tested low met icv x) apart)) s
+            → (next ≡ s) ⊎ (next ≡ raisedIn replaysAt s)
+        by true mine low met icv x e is = inl is
+        by false false low met icv x e is = inl is
+        by false true true met icv x e is = inr is
+        by false true false true icv x e is = inr is
+        by false true false false icv x e is = absurd (true≢false (sym e))
+
+    -- a message that leads elsewhere leaves every byte.
     pub elsewhere-stays : (message source out : List ℕ) → Bytes message
         → ((h : Header) → readOf message ≡ Read h → leadsTo (run t cs) (h .flag) (keyIdBytes h message) source ≡ At i → ⊥)
         → slotOf (after (run t cs) (arrival message source out)) i ≡ slotOf (run t cs) i
     elsewhere-stays message source out bytes away =
-        uncounted-stays (arrival message source out) (bytes, refl, tt) (by (ltb (length out) outputRoom) (readOf message) refl)
+        apart-stays (arrival message source out) (bytes, refl, tt) (by (ltb (length out) outputRoom) (readOf message) refl)
       where
-        by : (short : Bool) (p : Parsed) → readOf message ≡ p → countedOf (cond short apart (toldOf b (toldBy b cs) p message source)) ≡ nothing
+        by : (short : Bool) (p : Parsed) → readOf message ≡ p → cond short apart (toldOf b (toldBy b cs) p message source) ≡ apart
         by true p e = refl
         by false (Read h) e = rw (not-eq-not {a = isOf (b .keys) h message source} {b = false} .0 (λ yes. away h e (of-leads h message source yes)))
         by false BadLength e = refl
@@ -146,10 +194,10 @@ module _ {b : Beginning} {i : ℕ} {t : List ℕ} (begins : Begins b i t) where
         by false BadSuite e = refl
         by false TooShort e = refl
 
--- Totals and highest number depend on the beginning and the calls after it alone: in any other table, at any other slot, they are the same.
+-- Totals, highest number and counters depend on the beginning and the calls after it alone: in any other table, at any other slot, they are the same.
 pub same-totals : {b : Beginning} {i j : ℕ} {t u : List ℕ} → Begins b i t → Begins b j u → (cs : List Call) → GoesOn i t cs → GoesOn j u cs
     → let e = entryOf (slotOf (run t cs) i) in let f = entryOf (slotOf (run u cs) j) in
-    (e .accepted ≡ f .accepted) × (e .bytes ≡ f .bytes) × (e .window .highest ≡ f .window .highest)
+    (e .accepted ≡ f .accepted) × (e .bytes ≡ f .bytes) × (e .window .highest ≡ f .window .highest) × (e .counters ≡ f .counters)
 same-totals p q cs on-p on-q = one-account (history p cs on-p) (history q cs on-q)
 
 -- ---- calls that were made
@@ -165,11 +213,13 @@ history-traced {b} {i} {t} begins cs rs trace unended =
 
 -- ---- from an install on
 
--- "the entry's two totals are how many different numbers were counted and the sum of their payload lengths"
+-- "the entry's two totals are how many different numbers were counted and the sum of their payload lengths", and its counters how many arrivals it refused
+-- with 9 or 10, and with 11, cut at their limit
 pub fresh-totals : {k : KeyData} {f : Frame} {i : ℕ} {t : List ℕ} {past : List Told} → Accounts (fresh k f) i t past
     → let e = entryOf (slotOf t i) in
     (e .accepted ≡ length (different (numbers past))) × (e .bytes ≡ total (messages past)) × (e .window .highest ≡ highestOf (numbers past))
-fresh-totals a = (omega (arith, a .accepted), omega (arith, a .bytes), omega (arith, a .highest))
+    × (e .counters .replays ≡ cut (howMany isReplay past)) × (e .counters .forged ≡ cut (howMany isForgery past))
+fresh-totals a = (omega (arith, a .accepted), omega (arith, a .bytes), omega (arith, a .highest), omega (arith, a .replays), omega (arith, a .forged))
 
 module _ (t : List ℕ) (long : length t ≡ tableLength) (k : KeyData) (f : Frame) (bytes : Bytes (k .keyId)) (i : ℕ) where
   -- after an install answered 0 at slot i

@@ -18,4 +18,5 @@ pub mod Runs
 pub mod Starts
 pub mod Steps
 pub mod Traces
+pub mod Turned
 pub mod Worthless

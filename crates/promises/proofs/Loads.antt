@@ -1,5 +1,5 @@
 -- Loading a listing (02, No. 6): what is printed after a load is what was loaded; the listing of an undamaged entry loads where that entry stands with
--- accepted 0, and makes it that entry byte for byte; and a load that is done begins a history, with the listed window and totals.
+-- accepted 0, and makes it that entry byte for byte; and a load that is done begins a history, with the listed window, totals and counters.
 -- Assumes nothing.
 use mathlib.Core.Path.{_≡_, refl, sym, ap, subst, _∙_}
 use mathlib.Core.Bool.{true, false, _||_}
@@ -18,10 +18,11 @@ use Rattle.format.specs.KeyData.{KeyData}
 use Rattle.format.proofs.Soundness.{sound-facts, sound-test, sound-alike}
 use Rattle.window.specs.Window.{floorOf, marked}
 use Rattle.window.specs.Entry.{Entry}
-use Rattle.slots.specs.Table.{slotOf, keyIdOf, sourceOf, keyDataOf, entryOf, settled, replaced, slotCount, slotLength, tableLength, keyAt}
+use Rattle.slots.specs.Table.{slotOf, keyIdOf, sourceOf, keyDataOf, entryOf, restored, replaced, slotCount, slotLength, tableLength, keyAt}
 use Rattle.slots.specs.Record.{undamaged}
 use Rattle.slots.proofs.Damage.{undamaged-sound}
-use Rattle.slots.proofs.Settled.{Around, as-replaced, same-around}
+use Rattle.slots.proofs.Rewriting.{Around}
+use Rattle.slots.proofs.Settled.{restored-rewritten, same-around}
 use Rattle.slots.proofs.Slots.{slot-length}
 use Rattle.lookup.specs.Lookup.{leadsTo}
 use Rattle.lookup.specs.declared.Found.the-variants.{At}
@@ -40,7 +41,7 @@ use Rattle.promises.specs.Calls.{Call, load, OfBytes, after, run, Trace,
 use Rattle.promises.specs.Counted.{Beginning, standing, Message, toldBy, counted}
 use Rattle.promises.specs.History.{Begins, GoesOn, Unended, one, handed, handedBy, Accounts}
 use Rattle.promises.proofs.Beginnings.{slot-begins}
-use Rattle.promises.proofs.Held.{held-settled}
+use Rattle.promises.proofs.Held.{Held, held-small, held-rewritten}
 use Rattle.promises.proofs.History.{history, history-traced, no-used-number}
 use Rattle.promises.proofs.Runs.{begun, stands-on}
 use Rattle.promises.proofs.Traces.{allowed-called}
@@ -66,7 +67,7 @@ print-after-load t long text done out room = by (done-takes t text done)
         listed (loaded t text .table) i out ≡ record { answer = record { reply = 0; length = length text; slot = i; seqnum = 0 }; out = put out 0 text }
     by (l, n) =
         let i = l .settled .named .slot in
-        let next = settled t i (listedEntry l) in
+        let next = restored t i (listedEntry l) in
         let held : getD (slotOf next i) 0 0 ≡ 0 → ⊥ = λ z. n .stands .named .alike .held (sym (taken-keys long n .first) ∙ z) in
         rw (n .is)
         (lists next i out room (n .small) held (taken-undamaged long n)
@@ -79,7 +80,7 @@ module _ (i : ℕ) (s : List ℕ) (small : i < slotCount) (keyid : Bytes (keyIdO
     -- and a table where that entry stands with accepted 0
     (t : List ℕ) (long : length t ≡ tableLength) (there : stands (settledOf i s) (slotOf t i) ≡ true) where
   -- "every listing printed of an undamaged entry loads into a table where that entry stands with accepted 0"
-  pub listing-loads : loaded t (listingOf i s) ≡ record { answer = doneAt i; table = settled t i (entryOf s) }
+  pub listing-loads : loaded t (listingOf i s) ≡ record { answer = doneAt i; table = restored t i (entryOf s) }
   listing-loads =
       let a = stand-facts (settledOf i s) (slotOf t i) there in
       let key : length (keyDataOf (slotOf t i) .key) ≡ 32 = length-part keyAt 32 (slotOf t i) (rw (slot-length t i long small) (omega arith)) in
@@ -87,10 +88,10 @@ module _ (i : ℕ) (s : List ℕ) (small : i < slotCount) (keyid : Bytes (keyIdO
       (sound-test (keyDataOf (slotOf t i)) (sound-alike (undamaged-sound s unharmed) (a .named .alike .flag-same) (a .named .alike .keyid-same)
       (a .named .source-same) (a .terms .suite-same) (a .terms .edition-same) key))
 
-  -- and where the slot has the entry's bytes but for window and totals, it is then that entry, byte for byte.
+  -- and where the slot has the entry's bytes but for window, totals and counters, it is then that entry, byte for byte.
   pub listing-restores : length s ≡ slotLength → Bytes s → Around s (slotOf t i) → loaded t (listingOf i s) .table ≡ replaced t i s
   listing-restores full bytes around =
-      ap (λ (z : Left). z .table) listing-loads ∙ as-replaced t i (entryOf s) long small ∙ ap (replaced t i) (same-around s (slotOf t i) full bytes around)
+      ap (λ (z : Left). z .table) listing-loads ∙ restored-rewritten t i (entryOf s) long small .is ∙ ap (replaced t i) (same-around s (slotOf t i) full bytes around)
 
 -- ---- a history from there on
 
@@ -109,10 +110,11 @@ load-begins t long text l read i done leads = by (done-takes t text (ap (λ (a :
     begins : (m : Listing) → m ≡ l → Takes t text m → m .settled .named .slot ≡ i → Begins (standing k (listedEntry l)) i (loaded t text .table)
     begins m is n slot =
         let e = listedEntry m in
-        let next = settled t i e in
-        let held = held-settled (record { long = long; sound = sound-facts k (rw slot at (n .sound)); keys = refl; leads = leads }) e in
+        let next = restored t i e in
+        let was : Held k i t = record { long = long; sound = sound-facts k (rw slot at (n .sound)); keys = refl; leads = leads } in
+        let held = held-rewritten was (restored-rewritten t i e long (held-small was)) in
         let there = slot-begins next (held .long) i (subst (λ (x : KeyData). leadsTo next (x .flag) (x .keyId) (x .source) ≡ At i) (sym (held .keys)) (held .leads)) (rw slot at (taken-undamaged long n)) in
-        let same : loaded t text .table ≡ next = ap (λ (z : Left). z .table) (n .is) ∙ ap (λ (x : ℕ). settled t x e) slot in
+        let same : loaded t text .table ≡ next = ap (λ (z : Left). z .table) (n .is) ∙ ap (λ (x : ℕ). restored t x e) slot in
         let listed-there = subst (λ (x : KeyData). Begins (standing x (entryOf (slotOf next i))) i next) (held .keys) there in
         subst (λ (z : Listing). Begins (standing k (listedEntry z)) i (loaded t text .table)) is
         (rw same (subst (λ (x : Entry). Begins (standing k x) i next) (rw slot at (taken-entry long n)) listed-there))
@@ -125,7 +127,7 @@ module _ {b : Beginning} {i : ℕ} {t : List ℕ} (begins : Begins b i t) (cs : 
   abbrev ran : List ℕ
   ran = run t cs
 
-  -- a history begins, with the listed window and totals;
+  -- a history begins, with the listed window, totals and counters;
   pub load-history : loaded ran text .answer ≡ doneAt i → Begins (standing (b .keys) (listedEntry l)) i (after ran (load text))
   load-history done =
       let held = stands-on (begun begins) cs goes .held in

@@ -1,5 +1,5 @@
 -- A restart (02, No. 6): after calls an entry is printed; another gateway installs the same data, loads the listing, and goes on with further calls. For
--- that entry their replies, payloads and totals are those of the gateway that never stopped.
+-- that entry their replies, payloads, totals and counters are those of the gateway that never stopped.
 -- Assumes nothing.
 use mathlib.Core.Path.{_≡_, refl, sym, ap, subst, _∙_}
 use mathlib.Core.Bool.{Bool, true, false, true≢false, not-eq-not}
@@ -10,10 +10,11 @@ use native.Mathlib.Nat.{zero-add}
 use native.Mathlib.Decide.{ℕ-discrete}
 use native.Mathlib.Omega.{arith}
 use borrow.Author.Tests.{eqb-true, eq-eqb, ne-eqb, ltb-false}
-use lib.Dec.{ltb}
+use lib.Dec.{ltb, lit≤}
 use lib.ListN.{length, getD, take, drop, replicate, length-replicate}
 use lib.Seq.{take-append-seam}
 use Rattle.octets.specs.Octets.{Bytes, put}
+use Rattle.octets.proofs.BigEndian.{length-bytes}
 use Rattle.answers.specs.Answers.{refused, outputRoom}
 use Rattle.answers.specs.declared.Answer.{Answer}
 use Rattle.format.specs.Header.{readOf}
@@ -25,10 +26,11 @@ use Rattle.message.specs.Sealing.{opened}
 use Rattle.window.specs.declared.Frame.{Frame}
 use Rattle.window.specs.Entry.{Entry, taken}
 use Rattle.window.proofs.Entries.{entry-test}
-use Rattle.slots.specs.Table.{slotOf, occupied, windowOf, keyIdOf, sourceOf, keyDataOf, entryOf, settled, tableLength, occupiedAt, highestAt, replaysAt}
+use Rattle.slots.specs.Table.{slotOf, occupied, windowOf, keyIdOf, sourceOf, keyDataOf, entryOf, restored, slotLength, tableLength, occupiedAt, highestAt, replaysAt, forgedAt, spareAt}
 use Rattle.slots.proofs.Damage.{undamaged-entry}
 use Rattle.slots.proofs.Replacing.{slot-own}
-use Rattle.slots.proofs.Settled.{Around, same-around, slot-settled, entry-settled}
+use Rattle.slots.proofs.Rewriting.{Around, written-around, rewritten-slot}
+use Rattle.slots.proofs.Settled.{undamaged-fits, settled-around, same-around, restored-rewritten, entry-restored}
 use Rattle.slots.proofs.Slots.{slot-length}
 use Rattle.lookup.specs.Lookup.{matches, leadsTo, firstFree}
 use Rattle.lookup.specs.declared.Found.the-variants.{At, Nothing}
@@ -52,7 +54,7 @@ use Rattle.loading.proofs.Standing.{stand-test}
 use Rattle.gateway.specs.Receive.{Received, received}
 use Rattle.promises.specs.Calls.{Call, arrival, install, remove, change, load, OfBytes, called, after, run, isDone, Trace, lastOf}
 use Rattle.promises.specs.Counted.{Beginning, fresh, standing, Message, numbersOf, isOf, Told, apart, below, used, forged, new, told, toldFrom, toldBy, counted}
-use Rattle.promises.specs.History.{Begins, Handed, nothing, one, handed, handedBy, Unended, GoesOn, ends, different, countedOf, replyTo, SameFor, NoChangeOf, Unchanged, Resumed}
+use Rattle.promises.specs.History.{Begins, Handed, nothing, one, handed, handedBy, Unended, GoesOn, ends, different, countedOf, slotBy, entryBy, replyTo, SameFor, NoChangeOf, Unchanged, Resumed}
 use Rattle.promises.proofs.Beginnings.{install-begins, slot-begins}
 use Rattle.promises.proofs.Held.{Held, held-small, held-alike}
 use Rattle.promises.proofs.Loads.{listing-loads, load-history}
@@ -93,7 +95,7 @@ module _ {b : Beginning} {i : ℕ} {t : List ℕ} {past : List Told} (now : Stan
       refusal : (n : ℕ) → 1 ≤ n → called t c .answer .reply ≡ n → (called t c .answer ≡ refused n) × (called t c .out ≡ out)
       refusal n some e =
           let k = receive-keeps t m source out .refusal (λ z. omega arith) in
-          (k .0 ∙ ap refused e, k .1 .1)
+          (k .0 ∙ ap refused e, k .1)
 
       by : (w : Told) → told b past c ≡ w → called t c .answer .reply ≡ replyTo w
           → (called t c .answer ≡ answerTo i w) × (called t c .out ≡ outTo out (opened h (b .keys) m) w)
@@ -131,6 +133,14 @@ named-again held v name terms keys frame unused =
       };
       unused = unused;
     }
+
+-- what is told of a call leaves the bytes around window, totals and counters
+told-around-all : (w : Told) (s : List ℕ) → length s ≡ slotLength → Around s (slotBy w s)
+told-around-all apart s long = record { front = refl; rest = refl }
+told-around-all below s long = written-around s replaysAt _ long (lit≤ tt) (rw length-bytes (lit≤ tt))
+told-around-all used s long = written-around s replaysAt _ long (lit≤ tt) (rw length-bytes (lit≤ tt))
+told-around-all forged s long = written-around s forgedAt _ long (lit≤ tt) (rw length-bytes (lit≤ tt))
+told-around-all (new x) s long = settled-around s (taken (entryOf s) (x .number) (x .payload)) long
 
 -- the entry stands in both, with the same past, and is the same
 record InStep (b : Beginning) (i : ℕ) (t u : List ℕ) (past : List Told) : Type 0 where
@@ -212,17 +222,17 @@ module _ {b : Beginning} {i : ℕ} where
   both-step : {t u : List ℕ} {past : List Told} → InStep b i t u past → (c : Call) → OfBytes c → ends i c (called t c .answer) ≡ false → ends i c (called u c .answer) ≡ false
       → InStep b i (after t c) (after u c) (told b past c ∷ past)
   both-step {t} {u} {past} both c bytes goes go =
-      record { first = first .stands; second = second .stands; entries = moves (countedOf (told b past c)) refl }
+      record {
+        first = first .stands;
+        second = second .stands;
+        entries = first .moves ∙ ap (entryBy (told b past c)) (both .entries) ∙ sym (second .moves);
+      }
     where
       first : Does b i t past (handed i t c) (after t c) (told b past c)
       first = step (both .first) c bytes goes
 
       second : Does b i u past (handed i u c) (after u c) (told b past c)
       second = step (both .second) c bytes go
-
-      moves : (x : Handed) → countedOf (told b past c) ≡ x → entryOf (slotOf (after t c) i) ≡ entryOf (slotOf (after u c) i)
-      moves nothing e = ap entryOf (first .untouched e) ∙ both .entries ∙ sym (ap entryOf (second .untouched e))
-      moves (one x) e = first .takes x e ∙ ap (λ (z : Entry). taken z (x .number) (x .payload)) (both .entries) ∙ sym (second .takes x e)
 
   -- so calls that go on in both leave them in step,
   in-step : {t u : List ℕ} {past : List Told} → InStep b i t u past → (es : List Call) → GoesOn i t es → GoesOn i u es → InStep b i (run t es) (run u es) (toldFrom b past es)
@@ -236,13 +246,17 @@ module _ {b : Beginning} {i : ℕ} where
       let go = ends-too both c (other .0) (p .1) in
       (p .0, go, goes-too (both-step both c (p .0) (p .1) go) es (other .1) (p .2))
 
-  -- calls leave the bytes around window and totals
+  -- calls leave the bytes around window, totals and counters
   pub around-on : {t : List ℕ} {past : List Told} → Stands b i t past → (cs : List Call) → GoesOn i t cs → Around (slotOf t i) (slotOf (run t cs) i)
   around-on now [] goes = record { front = refl; rest = refl }
-  around-on now (c ∷ cs) goes =
+  around-on {t} {past} now (c ∷ cs) goes =
       let d = step now c (goes .0) (goes .1) in
       let later = around-on (d .stands) cs (goes .2) in
-      record { front = later .front ∙ d .around .front; rest = later .rest ∙ d .around .rest }
+      let there = told-around-all (told b past c) (slotOf t i) (slot-length t i (now .held .long) (held-small (now .held))) in
+      record {
+        front = later .front ∙ ap (take highestAt) (d .leaves) ∙ there .front;
+        rest = later .rest ∙ ap (drop spareAt) (d .leaves) ∙ there .rest;
+      }
 
 -- what stands in a slot begins a history of its own
 stands-begins : {b : Beginning} {i : ℕ} {t : List ℕ} {past : List Told} → Stands b i t past → Begins (standing (b .keys) (entryOf (slotOf t i))) i t
@@ -297,7 +311,7 @@ module _ {b : Beginning} {i : ℕ} {t : List ℕ} (begins : Begins b i t) (keyid
         (omega (arith, accounts waits .accepted, ap (λ (xs : List Message). length (different (numbersOf xs))) none)))
 
     -- there the listing loads,
-    pub reloads : loaded anew text ≡ record { answer = doneAt i; table = settled anew i (entryOf (slotOf ran i)) }
+    pub reloads : loaded anew text ≡ record { answer = doneAt i; table = restored anew i (entryOf (slotOf ran i)) }
     reloads =
         listing-loads i (slotOf ran i) (held-small (now .held)) keyid-there source-there (unharmed now) anew (waits .held .long) there
 
@@ -313,7 +327,7 @@ module _ {b : Beginning} {i : ℕ} {t : List ℕ} (begins : Begins b i t) (keyid
               (ap (λ (z : Left). z .answer) reloads));
           entries =
               sym (ap (λ (z : Left). entryOf (slotOf (z .table) i)) reloads
-              ∙ entry-settled anew i e (waits .held .long) small (undamaged-entry (slotOf ran i) (unharmed now)) (waits .agrees .framed ∙ sym (now .agrees .framed)));
+              ∙ entry-restored anew i e (waits .held .long) small (undamaged-fits (undamaged-entry (slotOf ran i) (unharmed now))) (waits .agrees .framed ∙ sym (now .agrees .framed)));
         }
 
     -- and after any further calls that end the history in neither, both do the same for the entry and have handed out the same there;
@@ -409,10 +423,10 @@ module _ (t u : List ℕ) (tl : length t ≡ tableLength) (ul : length u ≡ tab
       let alike-fresh = fresh-there u ul k f keyid i second ∙ sym (fresh-there t tl k f keyid i first) in
       let around : Around s (slotOf v i) = record {
         front = there .front ∙ ap (take highestAt) alike-fresh ∙ sym (here .front);
-        rest = there .rest ∙ ap (drop replaysAt) alike-fresh ∙ sym (here .rest);
+        rest = there .rest ∙ ap (drop spareAt) alike-fresh ∙ sym (here .rest);
       } in
-      let is = subst (λ (x : List ℕ). loaded v x ≡ record { answer = doneAt i; table = settled v i (entryOf s) }) is-print (reloads begins keyid source cs goes again ds on none) in
-      ap (λ (z : Left). slotOf (z .table) i) is ∙ slot-settled v i (entryOf s) (waits .held .long) small
+      let is = subst (λ (x : List ℕ). loaded v x ≡ record { answer = doneAt i; table = restored v i (entryOf s) }) is-print (reloads begins keyid source cs goes again ds on none) in
+      ap (λ (z : Left). slotOf (z .table) i) is ∙ rewritten-slot v i (waits .held .long) small (restored-rewritten v i (entryOf s) (waits .held .long) small)
       ∙ same-around s (slotOf v i) (slot-length lasting i (now .held .long) small) bytes around
 
 -- An empty table answers slot 0 to every install that is answered 0 elsewhere,

@@ -10,7 +10,8 @@ use native.Mathlib.Omega.{arith}
 use borrow.Author.Tests.{ne-eqb}
 use lib.ListN.{length, length-map}
 use Rattle.format.proofs.Soundness.{Sound}
-use Rattle.slots.specs.Table.{slotOf, tableLength}
+use Rattle.window.specs.declared.Counters.{Counters}
+use Rattle.slots.specs.Table.{slotOf, countersOf, tableLength}
 use Rattle.slots.proofs.Damage.{undamaged-sound, undamaged-entry}
 use Rattle.entries.specs.Change.{changed}
 use Rattle.entries.specs.Install.{Left, removed}
@@ -20,14 +21,17 @@ use Rattle.loading.specs.Load.{loaded}
 use Rattle.loading.proofs.Outcomes.{Takes, load-outcome, load-length}
 use Rattle.gateway.proofs.Cascade.{received-length}
 use Rattle.promises.specs.Calls.{Call, arrival, install, remove, change, load, OfBytes, AllOfBytes, called, after, run, results, isDone}
-use Rattle.promises.specs.Counted.{Beginning, Message, Told, messages, told, toldFrom}
+use Rattle.promises.specs.Counted.{Beginning, Message, Told, messages, countersSince, told, toldFrom}
 use Rattle.promises.specs.History.{Begins, Handed, handed, noted, handedBy, ends, GoesOn, Spares, SpareAll, countedOf, Accounts}
-use Rattle.promises.proofs.Counting.{grown}
+use Rattle.promises.proofs.Counting.{grown, same-counters}
 use Rattle.promises.proofs.Steps.{Stands, arrives, replied, step, unharmed}
 
 pub begun : {b : Beginning} {i : ℕ} {t : List ℕ} → Begins b i t → Stands b i t []
 begun {b} {i} {t} g =
     let s = slotOf t i in
+    let whole = undamaged-entry s (g .unharmed) in
+    let counters : countersOf s ≡ countersSince b [] =
+    same-counters (omega (arith, whole .few-replays, ap (λ (c : Counters). c .replays) (g .counters))) (omega (arith, whole .few-forged, ap (λ (c : Counters). c .forged) (g .counters))) in
     record {
       held = record {
         long = g .long;
@@ -42,7 +46,8 @@ begun {b} {i} {t} g =
         once = refl;
         number = omega (arith, g .accepted);
         sum = omega (arith, g .bytes);
-        unharmed = undamaged-entry s (g .unharmed);
+        counters = counters;
+        unharmed = whole;
       };
     }
 
@@ -67,6 +72,8 @@ module _ {b : Beginning} {i : ℕ} where
         replies = λ message source out bytes. replied now message source out bytes;
         accepted = omega (arith, a .number, ap length (a .once), length-map (messages past) (λ (x : Message). x .number));
         bytes = a .sum;
+        replays = ap (λ (c : Counters). c .replays) (a .counters);
+        forged = ap (λ (c : Counters). c .forged) (a .counters);
         once = a .once;
         highest = a .high;
         keys = now .held .keys;

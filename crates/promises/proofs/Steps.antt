@@ -1,5 +1,5 @@
--- What a call leaves of an entry that stands in slot i: it hands out there exactly what is counted, the entry has taken just that, and a
--- message of the entry meets the reply that is told.
+-- What a call leaves of an entry that stands in slot i: it hands out there exactly what is counted, the slot is as what is told makes it, to the byte, and
+-- a message of the entry meets the reply that is told.
 -- Assumes nothing.
 use mathlib.Core.Path.{_≡_, refl, sym, ap, subst, _∙_}
 use mathlib.Core.Bool.{Bool, true, false, true≢false, not-eq-not, cond}
@@ -14,7 +14,7 @@ use Rattle.answers.specs.Answers.{outputRoom, outputSmall, badLength, badVersio
 use Rattle.octets.specs.Octets.{Bytes, put}
 use Rattle.window.specs.Window.{judge, verdictOf}
 use Rattle.window.specs.declared.Frame.{Frame}
-use Rattle.window.specs.Entry.{Entry, taken}
+use Rattle.window.specs.Entry.{Entry, taken, counting}
 use Rattle.window.specs.declared.Verdict.{Verdict}
 use Rattle.window.specs.declared.Verdict.the-variants.{Below, Marked, Admissible}
 use Rattle.format.specs.Header.{readOf, payloadLength, keyIdBytes}
@@ -26,9 +26,10 @@ use Rattle.format.specs.declared.header.Parsed.the-variants.{Read, BadLength, B
 use Rattle.format.proofs.Soundness.{sound-facts}
 use Rattle.format.proofs.Room.{read-room, payload-most, number-small}
 use Rattle.message.specs.Sealing.{right, opened}
-use Rattle.slots.specs.Table.{slotOf, csOf, keyIdLengthOf, sourceLengthOf, entryOf, settled, replaced, emptySlot, slotLength, slotCount, keyIdRoom, sourceRoom, occupiedAt, keyDataOf}
+use Rattle.slots.specs.Table.{slotOf, csOf, countersOf, entryOf, settled, restored, raisedIn, replaced, emptySlot, slotLength, slotCount, occupiedAt, keyDataOf}
 use Rattle.slots.specs.Record.{undamaged}
-use Rattle.slots.proofs.Settled.{Around, settled-keys, settledSlot, length-slot, as-replaced, slot-around, entry-settled}
+use Rattle.slots.proofs.Rewriting.{Rewritten, raised-rewritten, rewritten-slot}
+use Rattle.slots.proofs.Settled.{undamaged-fits, raised-replays, raised-forged, settled-rewritten, restored-rewritten, entry-settled}
 use Rattle.slots.proofs.Slots.{slot-length}
 use Rattle.lookup.specs.Lookup.{matches, leadsTo}
 use Rattle.lookup.specs.declared.Found.{Found}
@@ -44,14 +45,14 @@ use Rattle.entries.proofs.Outcomes.{Refuses, Enters, Frees, Changes, install-ou
 use Rattle.form.specs.Form.{Listing}
 use Rattle.loading.specs.Load.{listedEntry, loaded}
 use Rattle.loading.proofs.Outcomes.{Takes, load-outcome}
-use Rattle.gateway.specs.Receive.{Received, kept, handedOut, judged, arrived, led, parsed, received}
-use Rattle.gateway.proofs.Arrivals.{other-suite, by-verdict, wrong-icv, right-icv}
+use Rattle.gateway.specs.Receive.{Received, kept, counterOf, turnedAway, handedOut, judged, arrived, led, parsed, received}
+use Rattle.gateway.proofs.Arrivals.{other-suite, by-verdict, counter-within, wrong-icv, right-icv}
 use Rattle.gateway.proofs.Cascade.{of-arrived}
 use Rattle.promises.specs.Calls.{Call, arrival, install, remove, change, load, OfBytes, called, after}
 use Rattle.promises.specs.Counted.{Beginning, Message, isBelow, isUsed, isOf, Told, apart, below, used, forged, new, tested, toldOf, told}
-use Rattle.promises.specs.History.{replyTo, Handed, nothing, one, countedOf, answered, handed, ends}
+use Rattle.promises.specs.History.{replyTo, Handed, nothing, one, countedOf, slotBy, countersBy, entryBy, answered, handed, ends}
 use Rattle.promises.proofs.Counting.{Agrees, verdict-agrees, still-agrees, taken-agrees}
-use Rattle.promises.proofs.Held.{Held, isNamed, names-facts, names-test, names-back, match-names, held-small, held-alike, held-undamaged, leads-here, leads-named, held-settled, slot-beside, held-beside}
+use Rattle.promises.proofs.Held.{Held, isNamed, names-facts, names-test, names-back, match-names, held-small, held-alike, held-undamaged, leads-here, leads-named, slot-beside, held-beside, held-rewritten, held-aside, slot-aside}
 
 -- the entry in slot i agrees with what was counted
 pub record Stands (b : Beginning) (i : ℕ) (t : List ℕ) (past : List Told) : Type 0 where
@@ -63,9 +64,8 @@ module _ (b : Beginning) (i : ℕ) (t : List ℕ) (past : List Told) where
   pub record Does (given : Handed) (next : List ℕ) (w : Told) : Type 0 where
     pub gives : given ≡ countedOf w
     pub stands : Stands b i next (w ∷ past)
-    pub takes : (x : Message) → countedOf w ≡ one x → entryOf (slotOf next i) ≡ taken (entryOf (slotOf t i)) (x .number) (x .payload)
-    pub untouched : countedOf w ≡ nothing → slotOf next i ≡ slotOf t i
-    pub around : Around (slotOf t i) (slotOf next i)
+    pub moves : entryOf (slotOf next i) ≡ entryBy w (entryOf (slotOf t i))
+    pub leaves : slotOf next i ≡ slotBy w (slotOf t i)
 
   -- the same of an arrival, and what it writes
   pub record Meets (m source out : List ℕ) (w : Told) (r : Received) : Type 0 where
@@ -85,48 +85,47 @@ module _ {b : Beginning} {i : ℕ} {t : List ℕ} {past : List Told} (now : Stan
   held = now .held
 
   -- the call leaves the slot as it was
-  passing : (given : Handed) (next : List ℕ) (w : Told) → countedOf w ≡ nothing → given ≡ nothing → Held k i next → slotOf next i ≡ slotOf t i → Does b i t past given next w
-  passing given next w none g h same =
+  passing : (given : Handed) (next : List ℕ) → given ≡ nothing → Held k i next → slotOf next i ≡ slotOf t i → Does b i t past given next apart
+  passing given next g h same =
       record {
-        gives = g ∙ sym none;
-        stands = record { held = h; agrees = rw same (still-agrees (now .agrees) w none) };
-        takes = λ x e. cc;
-        untouched = λ z. same;
-        around = rw same (record { front = refl; rest = refl });
+        gives = g;
+        stands = record { held = h; agrees = rw same (still-agrees (now .agrees) apart refl) };
+        moves = ap entryOf same;
+        leaves = same;
       }
 
-  refusing : (w : Told) → countedOf w ≡ nothing → (m source out : List ℕ) (n : ℕ) → 1 ≤ n → Meets b i t past m source out w (kept t out n)
-  refusing w none m source out n some = record { does = passing _ t w none (rw (ne-eqb n 0 (λ z. omega arith))) held refl; writes = λ y e h read. cc }
-
-  -- window and totals of another slot
-  settled-aside : (j : ℕ) → j < slotCount → (e : Entry) → keyIdLengthOf (slotOf t j) ≤ keyIdRoom → sourceLengthOf (slotOf t j) ≤ sourceRoom → (j ≡ i → ⊥)
-      → Held k i (settled t j e) × (slotOf (settled t j e) i ≡ slotOf t i)
-  settled-aside j small e keyid source other =
-      let long = held .long in
-      let slot = settledSlot t j e long small in
-      let full = length-slot t j e long small in
-      let keys = settled-keys (slotOf t j) e (slot-length t j long small) keyid source in
-      let mild : isNamed k slot ≡ true → isNamed k (slotOf t j) ≡ true = λ h. sym (same-matches keys (k .flag) (k .keyId) (k .source)) ∙ h in (
-        rw (as-replaced t j e long small) (held-beside held j small slot full mild other),
-        rw (as-replaced t j e long small) (slot-beside held j small slot full mild other),
-      )
+  refusing : (m source out : List ℕ) (n : ℕ) → 1 ≤ n → Meets b i t past m source out apart (kept t out n)
+  refusing m source out n some = record { does = passing _ t (rw (ne-eqb n 0 (λ z. omega arith))) held refl; writes = λ y e h read. cc }
 
   -- ---- an arrival that leads elsewhere
 
   module _ (h : Header) (m source out : List ℕ) where
-    -- handed out at another slot
-    beside : (j : ℕ) → (j ≡ i → ⊥) → leadsTo t (h .flag) (keyIdBytes h m) source ≡ At j → Meets b i t past m source out apart (handedOut (payloadLength h m) t j h m out)
-    unfolding handedOut
-    beside j other l =
+    -- another slot is written, behind what an install settled
+    beside : (j : ℕ) → (j ≡ i → ⊥) → leadsTo t (h .flag) (keyIdBytes h m) source ≡ At j → {s u : List ℕ} → Rewritten t j s u
+        → (given : Handed) → given ≡ nothing → Does b i t past given u apart
+    beside j other l w given g =
         let a = match-facts (h .flag) (keyIdBytes h m) source (slotOf t j) (leads-matches t j (h .flag) (keyIdBytes h m) source l) in
-        let next = taken (entryOf (slotOf t j)) (h .seqnum) (payloadLength h m) in
-        let aside = settled-aside j (leads-small t j (h .flag) (keyIdBytes h m) source l) next (a .keyid-short) (a .source-short) other in
-        record { does = passing _ (settled t j next) apart refl (rw (ne-eqb j i other)) (aside .0) (aside .1); writes = λ y e g read. cc }
+        let small = leads-small t j (h .flag) (keyIdBytes h m) source l in
+        passing given _ g (held-aside held j small w (a .keyid-short) (a .source-short) other) (slot-aside held j small w (a .keyid-short) (a .source-short) other)
 
     elsewhere : (f : Found) → leadsTo t (h .flag) (keyIdBytes h m) source ≡ f → (f ≡ At i → ⊥) → Meets b i t past m source out apart (led f t h m out)
-    elsewhere Nothing l other = refusing apart refl m source out noEntry (lit≤ tt)
+    unfolding handedOut
+    elsewhere Nothing l other = refusing m source out noEntry (lit≤ tt)
     elsewhere (At j) l other =
-        of-arrived (Meets b i t past m source out apart) t out (λ n some small. refusing apart refl m source out n some) j h m (λ unharmed. beside j (λ same. other (ap At same)) l)
+        let apart-slot : j ≡ i → ⊥ = λ same. other (ap At same) in
+        let small = leads-small t j (h .flag) (keyIdBytes h m) source l in
+        of-arrived (Meets b i t past m source out apart) t out (λ n some low. refusing m source out n some) j h m
+        (λ unharmed n least most.
+        let within = counter-within n in
+        record {
+          does = beside j apart-slot l (raised-rewritten t j (held .long) small (counterOf n) (within .0) (within .1)) _ (rw (ne-eqb n 0 (λ z. omega arith)));
+          writes = λ y e g read. cc;
+        })
+        (λ unharmed.
+        record {
+          does = beside j apart-slot l (settled-rewritten t j (taken (entryOf (slotOf t j)) (h .seqnum) (payloadLength h m)) (held .long) small) _ (rw (ne-eqb j i apart-slot));
+          writes = λ y e g read. cc;
+        })
 
   -- ---- an arrival that leads to the slot
 
@@ -146,21 +145,18 @@ module _ {b : Beginning} {i : ℕ} {t : List ℕ} {past : List Told} (now : Stan
         let room = read-room m read in
         let next = taken entry (h .seqnum) (payloadLength h m) in
         let agrees = taken-agrees (now .agrees) message w (number-small room bytes) (payload-most room) in
-        let moved = entry-settled t i next (held .long) (held-small held) (agrees .unharmed) refl in
+        let moved = entry-settled t i next (held .long) (held-small held) (undamaged-fits (agrees .unharmed)) refl refl in
+        let written = settled-rewritten t i next (held .long) (held-small held) in
         record {
           meets = record {
             does = record {
               gives = rw (eq-eqb i i refl);
               stands = record {
-                held = held-settled held next;
+                held = held-rewritten held written;
                 agrees = subst (λ (x : Entry). Agrees b x (new message ∷ past)) (sym moved) agrees;
               };
-              takes =
-                  λ x e.
-                  let same : message ≡ x = cc in
-                  subst (λ (y : Message). entryOf (slotOf (settled t i next) i) ≡ taken entry (y .number) (y .payload)) same moved;
-              untouched = λ z. cc;
-              around = slot-around t i next (held .long) (held-small held);
+              moves = moved;
+              leaves = rewritten-slot t i (held .long) (held-small held) written;
             };
             writes =
                 λ y e g other.
@@ -175,17 +171,48 @@ module _ {b : Beginning} {i : ℕ} {t : List ℕ} {past : List Told} (now : Stan
         → judged w t i h m out ≡ arrived t i h m out
     judging suite w q = by-verdict t i h m out unharmed (eqb-true (csOf (slotOf t i)) (numberOf (h .suite)) suite) w q
 
-    turned : (w : Told) (n : ℕ) → 1 ≤ n → countedOf w ≡ nothing → n ≡ replyTo w → kept t out n ≡ arrived t i h m out → Lands b i t past m source out w (arrived t i h m out)
-    turned w n some none is e = subst (Lands b i t past m source out w) e (record { meets = refusing w none m source out n some; replies = is })
+    abbrev slot : List ℕ
+    slot = slotOf t i
+
+    -- a refusal that the slot counts
+    turned : (w : Told) (n : ℕ) → 1 ≤ n → countedOf w ≡ nothing → n ≡ replyTo w → slotBy w slot ≡ raisedIn (counterOf n) slot
+        → entryOf (raisedIn (counterOf n) slot) ≡ counting (entryOf slot) (countersBy w (countersOf slot)) → entryBy w (entryOf slot) ≡ counting (entryOf slot) (countersBy w (countersOf slot))
+        → turnedAway t i out n ≡ arrived t i h m out → Lands b i t past m source out w (arrived t i h m out)
+    turned w n some none is raises counts entry e =
+        let within = counter-within n in
+        let written = raised-rewritten t i (held .long) (held-small held) (counterOf n) (within .0) (within .1) in
+        let there = rewritten-slot t i (held .long) (held-small held) written in
+        let moved = ap entryOf there ∙ counts in
+        subst (Lands b i t past m source out w) e
+        (record {
+          meets = record {
+            does = record {
+              gives = rw (ne-eqb n 0 (λ z. omega arith)) (sym none);
+              stands = record {
+                held = held-rewritten held written;
+                agrees = subst (λ (x : Entry). Agrees b x (w ∷ past)) (sym moved) (still-agrees (now .agrees) w none);
+              };
+              moves = moved ∙ sym entry;
+              leaves = there ∙ sym raises;
+            };
+            writes = λ y x g read. cc;
+          };
+          replies = is;
+        })
+
+    full : length slot ≡ slotLength
+    full = slot-length t i (held .long) (held-small held)
 
     by-tests : (suite low met icv : Bool) → eqb (csOf (slotOf t i)) (numberOf (h .suite)) ≡ suite
         → verdictOf (entry .window) (h .seqnum) ≡ judge low met → right h (keyDataOf (slotOf t i)) m ≡ icv
         → Lands b i t past m source out (cond suite (tested low met icv message) apart) (arrived t i h m out)
     by-tests false low met icv p q r =
-        turned apart otherSuite (lit≤ tt) refl refl (other-suite t i h m out unharmed (eqb-false (csOf (slotOf t i)) (numberOf (h .suite)) p))
-    by-tests true true met icv p q r = turned below belowFloor (lit≤ tt) refl refl (judging p Below q)
-    by-tests true false true icv p q r = turned used repeated (lit≤ tt) refl refl (judging p Marked q)
-    by-tests true false false false p q r = turned forged wrongIcv (lit≤ tt) refl refl (wrong-icv t i h m out r ∙ judging p Admissible q)
+        subst (Lands b i t past m source out apart) (other-suite t i h m out unharmed (eqb-false (csOf (slotOf t i)) (numberOf (h .suite)) p))
+        (record { meets = refusing m source out otherSuite (lit≤ tt); replies = refl })
+    by-tests true true met icv p q r = turned below belowFloor (lit≤ tt) refl refl refl (raised-replays slot full) refl (judging p Below q)
+    by-tests true false true icv p q r = turned used repeated (lit≤ tt) refl refl refl (raised-replays slot full) refl (judging p Marked q)
+    by-tests true false false false p q r =
+        turned forged wrongIcv (lit≤ tt) refl refl refl (raised-forged slot full) refl (wrong-icv t i h m out r ∙ judging p Admissible q)
     by-tests true false false true p q r =
         subst (Lands b i t past m source out (new message)) (right-icv t i h m out r ∙ judging p Admissible q) (handing q)
 
@@ -217,10 +244,10 @@ module _ {b : Beginning} {i : ℕ} {t : List ℕ} {past : List Told} (now : Stan
             rw p
             (elsewhere h m source out (leadsTo t (h .flag) (keyIdBytes h m) source) refl
             (λ l. true≢false (sym (names-test k (h .flag) (keyIdBytes h m) source (leads-named held (h .flag) (keyIdBytes h m) source l)) ∙ p)))
-    reads BadLength e = refusing apart refl m source out badLength (lit≤ tt)
-    reads BadVersion e = refusing apart refl m source out badVersion (lit≤ tt)
-    reads BadSuite e = refusing apart refl m source out badSuite (lit≤ tt)
-    reads TooShort e = refusing apart refl m source out tooShort (lit≤ tt)
+    reads BadLength e = refusing m source out badLength (lit≤ tt)
+    reads BadVersion e = refusing m source out badVersion (lit≤ tt)
+    reads BadSuite e = refusing m source out badSuite (lit≤ tt)
+    reads TooShort e = refusing m source out tooShort (lit≤ tt)
 
     pub arrives : Meets b i t past m source out (told b past (arrival m source out)) (called t (arrival m source out))
     unfolding received
@@ -228,7 +255,7 @@ module _ {b : Beginning} {i : ℕ} {t : List ℕ} {past : List Told} (now : Stan
       where
         by : (x : Bool)
             → Meets b i t past m source out (cond x apart (toldOf b past (readOf m) m source)) (cond x (kept t out outputSmall) (parsed (readOf m) t m source out))
-        by true = refusing apart refl m source out outputSmall (lit≤ tt)
+        by true = refusing m source out outputSmall (lit≤ tt)
         by false = reads (readOf m) refl
 
     -- the reply to a message of the entry is the one that is told
@@ -247,7 +274,7 @@ module _ {b : Beginning} {i : ℕ} {t : List ℕ} {past : List Told} (now : Stan
   replacing : (j : ℕ) → j < slotCount → (j ≡ i → ⊥) → (s : List ℕ) → length s ≡ slotLength → isNamed k s ≡ false → Does b i t past nothing (replaced t j s) apart
   replacing j small other s n differs =
       let mild : isNamed k s ≡ true → isNamed k (slotOf t j) ≡ true = λ e. absurd (true≢false (sym e ∙ differs)) in
-      passing nothing (replaced t j s) apart refl refl (held-beside held j small s n mild other) (slot-beside held j small s n mild other)
+      passing nothing (replaced t j s) refl (held-beside held j small s n mild other) (slot-beside held j small s n mild other)
 
   module _ (other : KeyData) (f : Frame) (bytes : Bytes (other .keyId)) where
     -- a fresh entry of which the slot is no twin goes into another slot
@@ -268,7 +295,7 @@ module _ {b : Beginning} {i : ℕ} {t : List ℕ} {past : List Told} (now : Stan
     installs = by (install-outcome t other f)
       where
         by : Refuses t (installed t other f) ⊎ ((j : ℕ) × Enters t other f j) → Does b i t past nothing (installed t other f .table) apart
-        by (inl r) = rw (r .is) (passing nothing t apart refl refl held refl)
+        by (inl r) = rw (r .is) (passing nothing t refl held refl)
         by (inr (j, n)) =
             let free = eqb-true (getD (slotOf t j) occupiedAt 0) 0 (not-false (eqb (getD (slotOf t j) occupiedAt 0) 0) (free-empty t j (n .free))) in
             rw (n .is)
@@ -279,7 +306,7 @@ module _ {b : Beginning} {i : ℕ} {t : List ℕ} {past : List Told} (now : Stan
     changes j goes = by (change-outcome t j other f)
       where
         by : Refuses t (changed t j other f) ⊎ Changes t j other f → Does b i t past nothing (changed t j other f .table) apart
-        by (inl r) = rw (r .is) (passing nothing t apart refl refl held refl)
+        by (inl r) = rw (r .is) (passing nothing t refl held refl)
         by (inr c) =
             let aside =
             elsewhere-done (change j other f) (eq-eqb i i refl) j (sym (ap (λ (l : Left). ends i (change j other f) (l .answer)) (c .is)) ∙ goes) in
@@ -291,7 +318,7 @@ module _ {b : Beginning} {i : ℕ} {t : List ℕ} {past : List Told} (now : Stan
   removes j goes = by (remove-outcome t j)
     where
       by : Refuses t (removed t j) ⊎ Frees t j → Does b i t past nothing (removed t j .table) apart
-      by (inl r) = rw (r .is) (passing nothing t apart refl refl held refl)
+      by (inl r) = rw (r .is) (passing nothing t refl held refl)
       by (inr f) =
           rw (f .is)
           (replacing j (f .small) (elsewhere-done (remove j) (eq-eqb i i refl) j (sym (ap (λ (l : Left). ends i (remove j) (l .answer)) (f .is)) ∙ goes)) emptySlot (length-replicate {A = ℕ} slotLength 0)
@@ -301,13 +328,15 @@ module _ {b : Beginning} {i : ℕ} {t : List ℕ} {past : List Told} (now : Stan
   loads text goes = by (load-outcome t text)
     where
       by : Refuses t (loaded t text) ⊎ ((l : Listing) × Takes t text l) → Does b i t past nothing (loaded t text .table) apart
-      by (inl r) = rw (r .is) (passing nothing t apart refl refl held refl)
+      by (inl r) = rw (r .is) (passing nothing t refl held refl)
       by (inr (l, n)) =
           let j = l .settled .named .slot in
           let alike = n .stands .named .alike in
           let other = elsewhere-done (load text) (eq-eqb i i refl) j (sym (ap (λ (x : Left). ends i (load text) (x .answer)) (n .is)) ∙ goes) in
-          let aside = settled-aside j (n .small) (listedEntry l) (alike .keyid-short) (alike .source-short) other in
-          rw (n .is) (passing nothing (settled t j (listedEntry l)) apart refl refl (aside .0) (aside .1))
+          let written = restored-rewritten t j (listedEntry l) (held .long) (n .small) in
+          rw (n .is)
+          (passing nothing (restored t j (listedEntry l)) refl (held-aside held j (n .small) written (alike .keyid-short) (alike .source-short) other)
+          (slot-aside held j (n .small) written (alike .keyid-short) (alike .source-short) other))
 
   pub step : (c : Call) → OfBytes c → ends i c (called t c .answer) ≡ false → Does b i t past (handed i t c) (after t c) (told b past c)
   step (arrival m source out) bytes goes = arrives m source out bytes .does

@@ -1,19 +1,21 @@
 -- What demand 3 shuts out, without a look into what a receive does: where a slot accounts for what is told, a counted message is handed out,
--- it moves the slot, and totals cannot be invented.
+-- it moves the slot, a refusal is not forgotten, and neither totals nor counters can be invented.
 -- Assumes nothing.
 use mathlib.Core.Path.{_≡_, refl, sym, ap, _∙_}
 use mathlib.Core.Bool.{Bool, true, false, cond}
 use mathlib.Core.List.{List, _∷_}
-use Prim.Native.Nat.{ℕ}
+use Prim.Native.Nat.{ℕ, _<_}
 use native.Mathlib.Omega.{arith}
 use borrow.Author.Tests.{eqb-true}
 use lib.Dec.{eqb}
 use lib.ListN.{length}
 use Rattle.numbers.proofs.Tests.{and-left, and-right}
 use Rattle.answers.specs.declared.Answer.{Answer}
+use Rattle.window.specs.Counters.{counterLimit}
 use Rattle.slots.specs.Table.{slotOf, entryOf}
 use Rattle.promises.specs.Calls.{Call, arrival, install, remove, change, load, OfBytes, called, isDone}
-use Rattle.promises.specs.Counted.{Beginning, Message, Told, new, told}
+use Rattle.promises.specs.Counted.{Beginning, Message, Told, new, isReplay, told}
+use Rattle.promises.proofs.Counting.{same-counters}
 use Rattle.promises.specs.History.{nothing, one, answered, countedOf, Accounts}
 
 -- an answer that hands a message out at slot i
@@ -23,7 +25,7 @@ pub record Gives (i : ℕ) (a : Answer) (x : Message) : Type 0 where
   pub number : a .seqnum ≡ x .number
   pub payload : a .length ≡ x .payload
 
-nothing-given : {x : Message} → nothing ≡ one x → ⊥
+pub nothing-given : {x : Message} → nothing ≡ one x → ⊥
 nothing-given e = let z : _≡_ {A = ℕ} 0 1 = cc in omega arith
 
 pub answered-gives : (i : ℕ) (c : Call) (a : Answer) (x : Message) → answered i c a ≡ one x → Gives i a x
@@ -54,8 +56,18 @@ module _ {b : Beginning} {i : ℕ} {t : List ℕ} {past : List Told} (a : Accoun
   must-move u x later same =
       omega (arith, a .accepted, later .accepted, ap length (a .once), ap length (later .once), ap (λ (s : List ℕ). entryOf s .accepted) same)
 
-  -- Nor are totals invented: in any table and any slot that account for the same, they are the same.
+  -- Nor are totals or counters invented: in any table and any slot that account for the same, they are the same.
   pub one-account : {j : ℕ} {u : List ℕ} → Accounts b j u past
       → let e = entryOf (slotOf t i) in let f = entryOf (slotOf u j) in
-      (e .accepted ≡ f .accepted) × (e .bytes ≡ f .bytes) × (e .window .highest ≡ f .window .highest)
-  one-account other = (a .accepted ∙ sym (other .accepted), a .bytes ∙ sym (other .bytes), a .highest ∙ sym (other .highest))
+      (e .accepted ≡ f .accepted) × (e .bytes ≡ f .bytes) × (e .window .highest ≡ f .window .highest) × (e .counters ≡ f .counters)
+  one-account other = (
+    a .accepted ∙ sym (other .accepted),
+    a .bytes ∙ sym (other .bytes),
+    a .highest ∙ sym (other .highest),
+    same-counters (a .replays ∙ sym (other .replays)) (a .forged ∙ sym (other .forged)),
+  )
+
+  -- Nor is a refusal forgotten: below the limit, no table accounts for one refusal more with what stood in the slot before.
+  pub must-count : (u : List ℕ) (w : Told) → isReplay w ≡ true → entryOf (slotOf t i) .counters .replays < counterLimit → Accounts b i u (w ∷ past) → slotOf u i ≡ slotOf t i → ⊥
+  must-count u w replay low later same =
+      omega (arith, a .replays, ap (λ (n : ℕ). n) (rw replay at (later .replays)), ap (λ (s : List ℕ). entryOf s .counters .replays) same)

@@ -1,15 +1,17 @@
--- What is counted (demand 3): "count a message of that entry if it is genuine, came with room, is not below the floor of the highest number
+-- What is counted (demand 3; 02, No. 8: "Demand 3 gains them, each defined from the history"): "count a message of that entry if it is genuine, came with room, is not below the floor of the highest number
 -- counted before, and no counted message had its number." It is told by where the history began and by the calls since then. No table is
 -- among the arguments, so no mark, highest number or total of a table can enter.
 use mathlib.Core.Bool.{Bool, true, false, cond, not, _&&_, _||_}
 use mathlib.Core.List.{List, [], _∷_, map}
-use Prim.Native.Nat.{ℕ, max}
+use Prim.Native.Nat.{ℕ, _+_, max}
 use lib.Dec.{eqb, ltb}
 use lib.ListN.{length}
 use Rattle.answers.specs.Answers.{outputRoom}
 use Rattle.octets.specs.Octets.{same}
 use Rattle.window.specs.Window.{floorAt, floorOf, marked}
 use Rattle.window.specs.declared.Frame.{Frame}
+use Rattle.window.specs.Counters.{cut, noneRefused}
+use Rattle.window.specs.declared.Counters.{Counters}
 use Rattle.window.specs.Entry.{Entry}
 use Rattle.format.specs.KeyData.{KeyData}
 use Rattle.format.specs.Suite.{numberOf}
@@ -22,7 +24,7 @@ use Rattle.promises.specs.Calls.{Call, arrival, install, remove, change,
 
 -- ---- where a history begins
 
--- the entry's key data and frame, and what stood there before the first call: its highest number, which numbers were used, its totals
+-- the entry's key data and frame, and what stood there before the first call: its highest number, which numbers were used, its totals and its counters
 pub record Beginning : Type 0 where
   pub keys : KeyData
   pub frame : Frame
@@ -30,12 +32,13 @@ pub record Beginning : Type 0 where
   pub used : ℕ → Bool
   pub accepted : ℕ
   pub bytes : ℕ
+  pub counters : Counters
 
 -- an install's: "A fresh entry has highest 0, no mark, totals 0." A change's is the same (02, No. 7: "demand 3 reads it as a removal and an install")
 abbrev pub fresh : KeyData → Frame → Beginning
-fresh k f = record { keys = k; frame = f; highest = 0; used = λ n. false; accepted = 0; bytes = 0 }
+fresh k f = record { keys = k; frame = f; highest = 0; used = λ n. false; accepted = 0; bytes = 0; counters = noneRefused }
 
--- that of any entry: used is what is marked, and all below its floor. So it is after a load, with the listed window and totals (02, No. 6: "A load
+-- that of any entry: used is what is marked, and all below its floor. So it is after a load, with the listed window, totals and counters (02, No. 6: "A load
 -- begins a new history: demand 3's totals start from the listed ones, and listed marks and numbers below the listed floor count as used.")
 abbrev pub standing : KeyData → Entry → Beginning
 standing k e = record {
@@ -45,6 +48,7 @@ standing k e = record {
   used = λ n. ltb n (floorOf (e .window)) || marked (e .window) n;
   accepted = e .accepted;
   bytes = e .bytes;
+  counters = e .counters;
 }
 
 -- ---- what calls came to
@@ -90,6 +94,33 @@ highestOf (n ∷ ns) = max (highestOf ns) n
 abbrev pub isIn : ℕ → List ℕ → Bool
 isIn n [] = false
 isIn n (m ∷ ms) = eqb n m || isIn n ms
+
+-- ---- what was turned away
+
+-- refused with 9 or 10; and with 11
+abbrev pub isReplay : Told → Bool
+isReplay apart = false
+isReplay below = true
+isReplay used = true
+isReplay forged = false
+isReplay (new x) = false
+
+abbrev pub isForgery : Told → Bool
+isForgery apart = false
+isForgery below = false
+isForgery used = false
+isForgery forged = true
+isForgery (new x) = false
+
+-- how many calls of a past came to that
+abbrev pub howMany : (Told → Bool) → List Told → ℕ
+howMany is [] = 0
+howMany is (w ∷ past) = howMany is past + cond (is w) 1 0
+
+-- the counters after a past: those of the beginning and how many were turned away since then, "cut at that limit"
+abbrev pub countersSince : Beginning → List Told → Counters
+countersSince b past =
+    record { replays = cut (b .counters .replays + howMany isReplay past); forged = cut (b .counters .forged + howMany isForgery past) }
 
 -- ---- a number after a past
 

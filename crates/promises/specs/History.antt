@@ -1,21 +1,26 @@
 -- Demand 3, of a slot of a table: "Exactly the counted messages are handed out, and after each call the entry's two totals are how many
--- different numbers were counted and the sum of their payload lengths." A history begins with any undamaged entry, a fresh one or one that
+-- different numbers were counted and the sum of their payload lengths"; and its two counters how many arrivals it refused with 9 or 10, and with
+-- 11, cut at their limit (02, No. 8). A history begins with any undamaged entry, a fresh one or one that
 -- has a past, and goes on until the entry is removed or changed, or takes a listing.
 use mathlib.Core.Path.{_≡_}
 use mathlib.Core.Bool.{Bool, true, false, cond}
 use mathlib.Core.List.{List, [], _∷_}
 use mathlib.Core.Option.{some}
-use Prim.Native.Nat.{ℕ, _+_, _≤_}
-use lib.ListN.{length}
+use Prim.Native.Nat.{ℕ, _+_, _≤_, _<_}
+use lib.ListN.{length, take, drop}
 use Rattle.answers.specs.Answers.{outputRoom, otherSuite, belowFloor, repeated, wrongIcv}
 use Rattle.answers.specs.declared.Answer.{Answer}
-use Rattle.octets.specs.Octets.{Bytes}
+use Rattle.octets.specs.Octets.{Bytes, put}
 use Rattle.window.specs.Window.{floorOf, marked}
+use Rattle.window.specs.Counters.{cut, oneReplay, oneForgery}
+use Rattle.window.specs.declared.Counters.{Counters}
+use Rattle.window.specs.Entry.{Entry, taken, counting}
 use Rattle.format.specs.Header.{readOf}
 use Rattle.format.specs.KeyData.{KeyData}
 use Rattle.format.specs.declared.header.Header.{Header}
-use Rattle.format.specs.declared.header.Parsed.the-variants.{Read}
-use Rattle.slots.specs.Table.{slotOf, windowOf, entryOf, keyDataOf, tableLength}
+use Rattle.format.specs.declared.header.Parsed.{Parsed}
+use Rattle.format.specs.declared.header.Parsed.the-variants.{Read, BadLength, BadVersion, BadSuite, TooShort}
+use Rattle.slots.specs.Table.{slotOf, windowOf, entryOf, keyDataOf, historyBytes, raisedIn, slotCount, tableLength, highestAt, replaysAt, forgedAt, spareAt}
 use Rattle.slots.specs.Record.{undamaged}
 use Rattle.lookup.specs.Lookup.{leadsTo}
 use Rattle.lookup.specs.declared.Found.the-variants.{At}
@@ -23,7 +28,7 @@ use Rattle.entries.specs.Install.{isFair}
 use Rattle.form.specs.Form.{Listing, listingIn}
 use Rattle.gateway.specs.Receive.{Received}
 use Rattle.promises.specs.Calls.{Call, arrival, install, remove, change, load, OfBytes, called, run, results, isDone}
-use Rattle.promises.specs.Counted.{Beginning, Message, Told, apart, below, used, forged, new, messages, numbersOf, numbers, isIn, highestSince, isOf, told}
+use Rattle.promises.specs.Counted.{Beginning, Message, Told, apart, below, used, forged, new, messages, numbersOf, numbers, isIn, isReplay, isForgery, howMany, highestSince, isOf, told}
 
 -- ---- where a history begins in a table
 
@@ -39,6 +44,7 @@ pub record Begins (b : Beginning) (i : ℕ) (t : List ℕ) : Type 0 where
   pub used : (n : ℕ) → floorOf (windowOf (slotOf t i)) ≤ n → marked (windowOf (slotOf t i)) n ≡ b .used n
   pub accepted : entryOf (slotOf t i) .accepted ≡ b .accepted
   pub bytes : entryOf (slotOf t i) .bytes ≡ b .bytes
+  pub counters : entryOf (slotOf t i) .counters ≡ b .counters
 
 -- ---- how long it goes on, by what came back
 
@@ -121,6 +127,48 @@ replyTo used = repeated
 replyTo forged = wrongIcv
 replyTo (new x) = 0
 
+-- ---- what is told of a call settles what it leaves of the slot, to the byte
+
+-- nothing moves; one counter has one more; or window and totals take the message
+abbrev pub slotBy : Told → List ℕ → List ℕ
+slotBy apart s = s
+slotBy below s = raisedIn replaysAt s
+slotBy used s = raisedIn replaysAt s
+slotBy forged s = raisedIn forgedAt s
+slotBy (new x) s = put s highestAt (historyBytes (taken (entryOf s) (x .number) (x .payload)))
+
+-- the same of its entry
+abbrev pub countersBy : Told → Counters → Counters
+countersBy apart c = c
+countersBy below c = oneReplay c
+countersBy used c = oneReplay c
+countersBy forged c = oneForgery c
+countersBy (new x) c = c
+
+abbrev pub entryBy : Told → Entry → Entry
+entryBy apart e = e
+entryBy below e = counting e (countersBy below (e .counters))
+entryBy used e = counting e (countersBy used (e .counters))
+entryBy forged e = counting e (countersBy forged (e .counters))
+entryBy (new x) e = taken e (x .number) (x .payload)
+
+-- every byte of a slot stays but for those of its counters; and of a table, in every slot
+pub record ButCounters (s other : List ℕ) : Type 0 where
+  pub before : take replaysAt other ≡ take replaysAt s
+  pub behind : drop spareAt other ≡ drop spareAt s
+
+pub record TableButCounters (t u : List ℕ) : Type 0 where
+  pub long : length u ≡ tableLength
+  pub slots : (i : ℕ) → i < slotCount → ButCounters (slotOf t i) (slotOf u i)
+
+-- whether a message of the entry comes with a header that can be read
+abbrev pub isMine : KeyData → Parsed → List ℕ → List ℕ → Bool
+isMine k (Read h) message source = isOf k h message source
+isMine k BadLength message source = false
+isMine k BadVersion message source = false
+isMine k BadSuite message source = false
+isMine k TooShort message source = false
+
 -- ---- demand 3
 
 -- the different numbers of a list, each once; and the sum of payload lengths
@@ -142,6 +190,9 @@ pub record Accounts (b : Beginning) (i : ℕ) (t : List ℕ) (past : List Told) 
   -- the totals: what stood there, and how many different numbers were counted, and the sum of their payload lengths
   pub accepted : entryOf (slotOf t i) .accepted ≡ b .accepted + length (different (numbers past))
   pub bytes : entryOf (slotOf t i) .bytes ≡ b .bytes + total (messages past)
+  -- the counters: what stood there, and how many arrivals were refused with 9 or 10, and with 11, cut at the limit
+  pub replays : entryOf (slotOf t i) .counters .replays ≡ cut (b .counters .replays + howMany isReplay past)
+  pub forged : entryOf (slotOf t i) .counters .forged ≡ cut (b .counters .forged + howMany isForgery past)
   -- no number was counted twice
   pub once : different (numbers past) ≡ numbers past
   pub highest : windowOf (slotOf t i) .highest ≡ highestSince b past
@@ -152,7 +203,7 @@ pub record Accounts (b : Beginning) (i : ℕ) (t : List ℕ) (past : List Told) 
 
 -- ---- two gateways
 
--- Two tables do the same for an entry in slot i: its window and totals are the same, and the next call hands out the same there; and a message of it
+-- Two tables do the same for an entry in slot i: its window, totals and counters are the same, and the next call hands out the same there; and a message of it
 -- is answered alike and leaves the same in the output.
 pub record SameFor (k : KeyData) (i : ℕ) (t u : List ℕ) : Type 0 where
   pub entries : entryOf (slotOf t i) ≡ entryOf (slotOf u i)

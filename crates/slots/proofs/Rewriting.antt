@@ -2,18 +2,20 @@
 -- Assumes nothing.
 use mathlib.Core.Path.{_≡_, refl, sym, ap, _∙_}
 use mathlib.Core.List.{List}
+use mathlib.Core.Logic.{_⊎_}
 use Prim.Native.Nat.{ℕ, _+_, _*_, _≤_, _<_}
 use native.Mathlib.Omega.{arith}
 use lib.Dec.{lit≤}
 use lib.ListN.{length, getD, take, drop}
-use Rattle.octets.specs.Octets.{bytesOf, part, put}
+use Rattle.octets.specs.Octets.{bigEndian, bytesOf, part, put}
 use Rattle.octets.proofs.BigEndian.{length-bytes}
-use Rattle.octets.proofs.Parts.{take-put, drop-put, alike-at, alike-part, alike-number, put-within}
+use Rattle.octets.proofs.Parts.{part-other, number-own, take-put, drop-put, alike-at, alike-part, alike-number, put-within}
 use Rattle.octets.proofs.Places.{length-put}
 use Rattle.format.proofs.Soundness.{key-data-is}
+use Rattle.window.specs.Counters.{oneMore}
 use Rattle.slots.specs.Table.{slotOf, flagOf, csOf, editionOf, keyIdLengthOf, keyIdOf, sourceLengthOf, sourceOf, keyOf, keyDataOf, frameOf, replaced, raisedIn, raised, slotLength, slotCount, tableLength, occupiedAt, flagAt, suiteAt, editionAt, keyIdLengthAt, keyIdAt, keyIdRoom, sourceLengthAt, sourceAt, sourceRoom, keyAt, sizeAt, startAt, highestAt, replaysAt, spareAt}
 use Rattle.slots.proofs.Replacing.{length-replaced, slot-own}
-use Rattle.slots.proofs.Slots.{slot-length}
+use Rattle.slots.proofs.Slots.{slot-length, slot-number}
 
 -- all but window, totals and counters
 pub record SameKeys (s other : List ℕ) : Type 0 where
@@ -105,6 +107,24 @@ module _ (t : List ℕ) (i : ℕ) (long : length t ≡ tableLength) (small : i <
         around = written-around s at _ whole (omega arith) (rw length-bytes fits);
         is = refl;
       }
+
+  -- what that changes: the counter has one more, or stays at its limit, and no other byte moves
+  module _ (at : ℕ) (fits : at + 8 ≤ slotLength) where
+    in-place : raised t i at ≡ put t (slotLength * i + at) (bytesOf 8 (oneMore (bigEndian 8 (drop (slotLength * i + at) t))))
+    unfolding raised
+    in-place =
+        ap (λ (n : ℕ). replaced t i (put (slotOf t i) at (bytesOf 8 (oneMore n)))) (slot-number t i at 8 fits)
+        ∙ sym (put-within t (slotLength * i) slotLength at _ (omega arith) (rw length-bytes fits))
+
+    room-there : (n : ℕ) → slotLength * i + at + length (bytesOf 8 n) ≤ length t
+    room-there n = rw length-bytes (omega arith)
+
+    pub raised-counter : bigEndian 8 (drop (slotLength * i + at) (raised t i at)) ≡ oneMore (bigEndian 8 (drop (slotLength * i + at) t))
+    raised-counter = rw in-place (number-own t (slotLength * i + at) 8 (oneMore (bigEndian 8 (drop (slotLength * i + at) t))) (omega arith) (omega arith))
+
+    pub raised-elsewhere : (b n : ℕ) → b + n ≤ tableLength → (b + n ≤ slotLength * i + at) ⊎ (slotLength * i + at + 8 ≤ b) → part b n (raised t i at) ≡ part b n t
+    raised-elsewhere b n h beside =
+        rw in-place (part-other t (slotLength * i + at) (bytesOf 8 _) (room-there _) b n (rw long h) (rw length-bytes beside))
 
   module _ {s u : List ℕ} (w : Rewritten t i s u) where
     pub rewritten-length : length u ≡ tableLength

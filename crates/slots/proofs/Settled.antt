@@ -14,8 +14,8 @@ use Rattle.octets.proofs.Parts.{number-other, number-own}
 use Rattle.octets.proofs.Places.{put-behind}
 use Rattle.window.specs.declared.Counters.{Counters}
 use Rattle.window.specs.declared.Frame.{Frame}
-use Rattle.window.specs.Counters.{oneMore}
-use Rattle.window.specs.Entry.{Entry, counting, withReplay, withForgery}
+use Rattle.window.specs.Counters.{oneMore, oneReplay, oneForgery}
+use Rattle.window.specs.Entry.{Entry, counting}
 use Rattle.window.proofs.Entries.{UndamagedEntry, totals-small}
 use Rattle.window.proofs.Undamaged.{undamaged-facts, marks-small}
 use Rattle.slots.specs.Table.{slotOf, frameOf, windowOf, countersOf, entryOf, historyBytes, counterBytes, settled, restored, raisedIn, slotLength, slotCount, tableLength, sizeAt, startAt, highestAt, marksAt, acceptedAt, bytesAt, replaysAt, forgedAt, spareAt}
@@ -150,10 +150,10 @@ module _ (s : List ℕ) (x : ℕ) (long : length s ≡ slotLength) (small : x < 
 
 -- one refusal more
 module _ (s : List ℕ) (long : length s ≡ slotLength) where
-  pub raised-replays : entryOf (raisedIn replaysAt s) ≡ withReplay (entryOf s)
+  pub raised-replays : entryOf (raisedIn replaysAt s) ≡ counting (entryOf s) (oneReplay (countersOf s))
   raised-replays = replays-entry s (oneMore (bigEndian 8 (drop replaysAt s))) long (omega arith)
 
-  pub raised-forged : entryOf (raisedIn forgedAt s) ≡ withForgery (entryOf s)
+  pub raised-forged : entryOf (raisedIn forgedAt s) ≡ counting (entryOf s) (oneForgery (countersOf s))
   raised-forged = forged-entry s (oneMore (bigEndian 8 (drop forgedAt s))) long (omega arith)
 
 -- ---- all of them in a slot

@@ -20,5 +20,12 @@ oneMore n = cut (n + 1)
 abbrev pub noneRefused : Counters
 noneRefused = record { replays = 0; forged = 0 }
 
+-- both after an arrival that is refused with 9 or 10, and after one that is refused with 11
+abbrev pub oneReplay : Counters → Counters
+oneReplay c = record { replays = oneMore (c .replays); forged = c .forged }
+
+abbrev pub oneForgery : Counters → Counters
+oneForgery c = record { replays = c .replays; forged = oneMore (c .forged) }
+
 abbrev pub undamagedCounters : Counters → Bool
 undamagedCounters c = leb (c .replays) counterLimit && leb (c .forged) counterLimit

@@ -3,7 +3,7 @@ use mathlib.Core.Bool.{Bool, _&&_}
 use Prim.Native.Nat.{ℕ, _+_, _-_, _*_}
 use lib.Dec.{leb}
 use Rattle.window.specs.Window.{View, floorOf, acceptOf, countOf, undamagedWindow, freshOf}
-use Rattle.window.specs.Counters.{oneMore, noneRefused, undamagedCounters}
+use Rattle.window.specs.Counters.{noneRefused, undamagedCounters}
 use Rattle.window.specs.declared.Counters.{Counters}
 use Rattle.window.specs.declared.Frame.{Frame}
 
@@ -21,15 +21,9 @@ freshEntry f = record { window = freshOf f; accepted = 0; bytes = 0; counters = 
 abbrev pub taken : Entry → ℕ → ℕ → Entry
 taken e n payload = record { window = acceptOf (e .window) n; accepted = e .accepted + 1; bytes = e .bytes + payload; counters = e .counters }
 
--- the entry with other counters, after an arrival that is refused with 9 or 10, and after one that is refused with 11
+-- the entry with other counters
 abbrev pub counting : Entry → Counters → Entry
 counting e c = record { window = e .window; accepted = e .accepted; bytes = e .bytes; counters = c }
-
-abbrev pub withReplay : Entry → Entry
-withReplay e = counting e (record { replays = oneMore (e .counters .replays); forged = e .counters .forged })
-
-abbrev pub withForgery : Entry → Entry
-withForgery e = counting e (record { replays = e .counters .replays; forged = oneMore (e .counters .forged) })
 
 -- the most bytes that a payload can have, with a KeyId of one byte
 abbrev pub longestPayload : ℕ
