@@ -1,7 +1,7 @@
 -- What holds of every refusal and of what is handed out holds of any arrival: so an arrival leaves a table as long as it was, and answers no
 -- more than its message has.
 -- Assumes nothing.
-use mathlib.Core.Path.{_≡_, refl, ap, _∙_}
+use mathlib.Core.Path.{_≡_, refl}
 use mathlib.Core.Bool.{Bool, true, false, cond}
 use mathlib.Core.List.{List}
 use Prim.Native.Nat.{ℕ, _-_, _≤_, _<_}

@@ -14,7 +14,7 @@ use Rattle.numbers.proofs.Tests.{either}
 use Rattle.octets.proofs.BigEndian.{length-bytes}
 use Rattle.answers.specs.Answers.{refused, outputRoom, outputSmall, damaged, noSlot}
 use Rattle.answers.specs.declared.Answer.{Answer}
-use Rattle.slots.specs.Table.{slotOf, occupied, flagOf, csOf, editionOf, keyIdLengthOf, keyIdOf, sourceLengthOf, sourceOf, entryOf, slotLength, slotCount, occupiedAt, keyIdAt, sourceAt, isHeld}
+use Rattle.slots.specs.Table.{slotOf, flagOf, csOf, editionOf, keyIdLengthOf, keyIdOf, sourceLengthOf, sourceOf, entryOf, slotLength, slotCount, occupiedAt, keyIdAt, sourceAt, isHeld}
 use Rattle.slots.specs.Record.{undamaged}
 use Rattle.listing.specs.Listing.{namedLines, termLines, movedLines, counterLines, listingOf, Listed, IsListed, listed}
 use Rattle.text.proofs.Decimals.{length-decimal}

@@ -9,7 +9,7 @@ use native.Mathlib.Omega.{arith}
 use lib.ListN.{length, getD, take, drop, length-append, length-drop, take-append-drop, List·getD-append}
 use lib.Seq.{length-take-le, getD-append-add, getD-take, getD-drop, ext-getD, take-add, take-take, drop-drop, take-append-le, drop-append-le, drop-append-add, take-at, drop-at}
 use Rattle.octets.specs.Octets.{bigEndian, bytesOf, part, put}
-use Rattle.octets.proofs.BigEndian.{length-bytes, number-there}
+use Rattle.octets.proofs.BigEndian.{number-there}
 use Rattle.octets.proofs.Places.{length-put}
 
 pub length-part : (at n : ℕ) (l : List ℕ) → at + n ≤ length l → length (part at n l) ≡ n

@@ -22,7 +22,7 @@ use Rattle.format.specs.Suite.{numberOf}
 use Rattle.format.specs.declared.header.Header.{Header}
 use Rattle.format.specs.declared.header.Parsed.the-variants.{Read}
 use Rattle.message.specs.Sealing.{right}
-use Rattle.slots.specs.Table.{slotOf, entryOf, keyDataOf, raised, replaced, slotCount, tableLength}
+use Rattle.slots.specs.Table.{slotOf, entryOf, keyDataOf, replaced, slotCount, tableLength}
 use Rattle.slots.specs.Record.{undamaged}
 use Rattle.slots.proofs.Replacing.{length-replaced, slot-own, slot-other}
 use Rattle.slots.proofs.Rewriting.{Rewritten, raised-rewritten, rewritten-length, rewritten-slot, rewritten-keys}

@@ -54,7 +54,7 @@ use Rattle.loading.proofs.Standing.{stand-test}
 use Rattle.gateway.specs.Receive.{Received, received}
 use Rattle.promises.specs.Calls.{Call, arrival, install, remove, change, load, OfBytes, called, after, run, isDone, Trace, lastOf}
 use Rattle.promises.specs.Counted.{Beginning, fresh, standing, Message, numbersOf, isOf, Told, apart, below, used, forged, new, told, toldFrom, toldBy, counted}
-use Rattle.promises.specs.History.{Begins, Handed, nothing, one, handed, handedBy, Unended, GoesOn, ends, different, countedOf, slotBy, entryBy, replyTo, SameFor, NoChangeOf, Unchanged, Resumed}
+use Rattle.promises.specs.History.{Begins, handed, handedBy, Unended, GoesOn, ends, different, countedOf, slotBy, entryBy, replyTo, SameFor, NoChangeOf, Unchanged, Resumed}
 use Rattle.promises.proofs.Beginnings.{install-begins, slot-begins}
 use Rattle.promises.proofs.Held.{Held, held-small, held-alike}
 use Rattle.promises.proofs.Loads.{listing-loads, load-history}

@@ -35,7 +35,7 @@ use Rattle.lookup.specs.Lookup.{matches, leadsTo}
 use Rattle.lookup.specs.declared.Found.{Found}
 use Rattle.lookup.specs.declared.Found.the-variants.{At, Nothing}
 use Rattle.lookup.proofs.Firsts.{leads-small, leads-matches, leads-nowhere, elsewhere-nowhere, free-small, free-empty}
-use Rattle.lookup.proofs.Matching.{match-facts, no-match, same-matches}
+use Rattle.lookup.proofs.Matching.{match-facts, no-match}
 use Rattle.entries.specs.Fresh.{freshSlot}
 use Rattle.entries.specs.Change.{changed}
 use Rattle.entries.specs.Install.{Left, doneAt, installed, removed}

@@ -11,7 +11,6 @@ use lib.ListN.{length}
 use Rattle.answers.specs.Answers.{outputRoom, outputSmall, belowFloor, repeated, wrongIcv}
 use Rattle.octets.specs.Octets.{Bytes}
 use Rattle.format.specs.Header.{readOf}
-use Rattle.format.specs.declared.header.Header.{Header}
 use Rattle.format.specs.declared.header.Parsed.{Parsed}
 use Rattle.format.specs.declared.header.Parsed.the-variants.{Read, BadLength, BadVersion, BadSuite, TooShort}
 use Rattle.gateway.specs.Receive.{Received}

@@ -3,7 +3,7 @@
 use mathlib.Core.Path.{_≡_, sym, ap, _∙_}
 use mathlib.Core.List.{List, [], _∷_, _++_, map, append-assoc, append-nil}
 use mathlib.Core.Logic.{inl, inr}
-use Prim.Native.Nat.{ℕ, _+_, _-_, _*_, _^_, _≤_, _<_}
+use Prim.Native.Nat.{ℕ, _+_, _-_, _^_, _≤_, _<_}
 use native.Mathlib.Omega.{arith}
 use lib.Dec.{lit≤}
 use lib.ListN.{length, getD, take, drop, length-append, length-drop, take-append-drop}
@@ -18,7 +18,7 @@ use Rattle.window.specs.Counters.{oneMore, oneReplay, oneForgery}
 use Rattle.window.specs.Entry.{Entry, counting}
 use Rattle.window.proofs.Entries.{UndamagedEntry, totals-small}
 use Rattle.window.proofs.Undamaged.{undamaged-facts, marks-small}
-use Rattle.slots.specs.Table.{slotOf, frameOf, windowOf, countersOf, entryOf, historyBytes, counterBytes, settled, restored, raisedIn, slotLength, slotCount, tableLength, sizeAt, startAt, highestAt, marksAt, acceptedAt, bytesAt, replaysAt, forgedAt, spareAt}
+use Rattle.slots.specs.Table.{slotOf, windowOf, countersOf, entryOf, historyBytes, counterBytes, settled, restored, raisedIn, slotLength, slotCount, tableLength, sizeAt, startAt, highestAt, marksAt, acceptedAt, bytesAt, replaysAt, forgedAt, spareAt}
 use Rattle.slots.proofs.Rewriting.{Around, Rewritten, length-written, written-around, front-frame, rewritten, rewritten-slot}
 use Rattle.slots.proofs.Slots.{slot-length}
 use Rattle.slots.proofs.Standing.{Lies, joined, ahead, lies, number}

@@ -1,6 +1,5 @@
 -- `window::one_more` meets its contract: below the limit one more, and else the limit. Assumes nothing.
 use native.Mathlib.Omega.{arith}
-use borrow.Author.Needs.{needs}
 use Rattle.window.proofs.one_more.Statement.{statement}
 use Rattle.window.proofs.one_more.Tie as tie
 
