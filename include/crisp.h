@@ -6,9 +6,10 @@
  * (docs/PROMISES.md).
  *
  * All functions: no input has to be checked first, and every call returns. Those on a table or a record answer a refusal by its number, with
- * length, slot and seqnum 0, and it changes nothing: not the table, not the record, not the output. One table or one record is used by one call at a time; there is no other
- * state, so different tables may be used at once. Keys are handed in as bytes and are copied into the table; a removed entry leaves zeros, and of
- * one that is changed nothing is left.
+ * length, slot and seqnum 0, and it changes nothing: not the table, not the record, not the output. There is one exception: a message that
+ * crisp_receive refuses with 9, 10 or 11 is counted in its entry, and that counter is all that changes. One table or one record is used by one call
+ * at a time; there is no other state, so different tables may be used at once. Keys are handed in as bytes and are copied into the table; a removed
+ * entry leaves zeros, and of one that is changed nothing is left.
  *
  * Pointers: each points to as many bytes as its length says, at any address; a record is aligned as its type is. None may be null, not even with
  * length 0: CRISP_NOTHING is there for that. A buffer that a call writes must not overlap another one that it is lent. Nothing is promised of a
@@ -29,8 +30,12 @@ extern "C" {
 #endif
 
 /* The interface's version, 100 times the major one plus the minor one: the first is raised where a call of before has to be written anew or means
- * something else, the second where something was added. */
-#define CRISP_VERSION 303
+ * something else, the second where something was added.
+ *
+ * Version 4.0 brought the counters of what is turned away. No call has to be written anew, but two mean something else. crisp_receive writes to the
+ * table where it refuses with 9, 10 or 11: whoever saves a table after an accepted message only, saves counters that are older. And a listing has two
+ * lines more: one that was printed by version 3.3 or earlier is refused by crisp_load with 21, until `replays=0` and `forged=0` are put at its end. */
+#define CRISP_VERSION 400
 
 /* The version of the two layouts, the table's and the record's, raised where a place moves or gets another meaning. Keep it beside a saved table or
  * record: another layout's bytes are read as something else.
@@ -44,14 +49,17 @@ extern "C" {
  *
  * Suites 241 and 242 came with version 3.1 and moved nothing. Back in version 3.0 or earlier they are unsound: an entry or a record with one of them is
  * refused there with 7, and a message of theirs with 4. crisp_load came with version 3.2 and crisp_change with 3.3, and neither moved anything: a table
- * that crisp_load has written to can be used by version 3.1, and one that crisp_change has written to by version 3.2. */
+ * that crisp_load has written to can be used by version 3.1, and one that crisp_change has written to by version 3.2.
+ *
+ * The counters came with version 4.0 and moved nothing either: their places were kept for them and are zero in every entry of before, so a table that
+ * version 3 has saved has counters 0. Back in version 3 they are not looked at, and stay as they are as long as their entry stands. */
 #define CRISP_LAYOUT 2
 
 /* Bytes of a table, and its slots. A table of zeros is an empty one. It may be kept and saved as it is (see "Keys" below). Any bytes are safe to
  * hand in: a record that breaks the damage rule (unsound key data, Size or start, a highest number and marks that do not fit each other, totals
- * beyond their bounds) is refused with 7; one whose stored KeyId or source is longer than its room matches no message, which is then refused
- * with 6 unless another entry has its name. Other changes, of a byte of a key, to another suite or edition that is sound, or of a total within its
- * bounds, are not noticed: whoever saves a table sees to it that it comes back as it was. */
+ * beyond their bounds, a counter over its limit) is refused with 7; one whose stored KeyId or source is longer than its room matches no message,
+ * which is then refused with 6 unless another entry has its name. Other changes, of a byte of a key, to another suite or edition that is sound, or of
+ * a total or a counter within its bounds, are not noticed: whoever saves a table sees to it that it comes back as it was. */
 #define CRISP_TABLE 4608
 #define CRISP_SLOTS 16
 
@@ -88,6 +96,9 @@ extern "C" {
 /* The greatest number of a message, and the largest start of an entry: 2^48 - 1. */
 #define CRISP_LAST 281474976710655
 
+/* Where each of an entry's two counters stops, 2^32 - 1: a counter that stands there has counted so many or more. */
+#define CRISP_COUNTED 4294967295
+
 /* Bytes of the longest capture file, and of its header, behind which its first record is. */
 #define CRISP_CAPTURE 65536
 #define CRISP_CAPTURE_HEADER 24
@@ -110,9 +121,9 @@ enum {
     CRISP_NO_ENTRY = 6,         /* no slot matches */
     CRISP_DAMAGED = 7,          /* the entry's record is damaged; of a sender: unsound key data (edition 0 is), or a number over 2^48 - 1 */
     CRISP_OTHER_SUITE = 8,      /* suite not the entry's */
-    CRISP_BELOW_FLOOR = 9,      /* number below the window, or below the entry's start */
-    CRISP_REPEATED = 10,        /* number accepted before */
-    CRISP_WRONG_ICV = 11,       /* check value wrong; of all messages of a controller: its entry has another key or another edition */
+    CRISP_BELOW_FLOOR = 9,      /* number below the window, or below the entry's start; counted in `replays` */
+    CRISP_REPEATED = 10,        /* number accepted before; counted in `replays` */
+    CRISP_WRONG_ICV = 11,       /* check value wrong, counted in `forged`; of all messages of a controller: its entry has another key or edition */
     CRISP_NO_NUMBER = 12,       /* the sender has used number 2^48 - 1 */
     CRISP_UNSOUND = 13,         /* key data (its edition is part of it), window size or start unsound */
     CRISP_TWIN = 14,            /* an occupied slot (for a change: another one) has the same flag and KeyId and, for flag 1, source */
@@ -124,7 +135,7 @@ enum {
     CRISP_UNREADABLE = 20,      /* a record is empty, or its identifier runs past it */
     CRISP_BAD_TEXT = 21,        /* a text is not in the form of a listing */
     CRISP_NOT_STANDING = 22,    /* the listed entry is not in its slot, or has accepted something */
-    CRISP_WOULD_BE_DAMAGED = 23 /* the listed highest number, marks and totals would make a damaged record, or its key data does */
+    CRISP_WOULD_BE_DAMAGED = 23 /* the listed highest number, marks, totals and counters would make a damaged record, or its key data does */
 };
 
 /* What every function on a table or a record answers. */
@@ -213,9 +224,9 @@ CRISP_CHECK(crisp_record_is_laid_out_as_in_the_library,
 
 /* Puts a fresh entry into the lowest free slot. flag, keyid, source, suite, edition and the 32-byte key are as in the record above; size is the
  * window's, 1 to 256; start is the least number that the entry will ever take, 0 to CRISP_LAST. Done (0): slot is the slot taken; the entry has
- * highest number 0, nothing accepted, totals 0. Refuses with 13 (key data unsound, also by a flag over 1, by an edition that is not 1 or 2, or by 1
- * with another suite than 1; size or start out of range), 14 (an occupied slot has the same flag and KeyId and, for flag 1, source) and 15 (no free
- * slot), in that order. Touches no other slot.
+ * highest number 0, nothing accepted, totals and counters 0. Refuses with 13 (key data unsound, also by a flag over 1, by an edition that is not 1
+ * or 2, or by 1 with another suite than 1; size or start out of range), 14 (an occupied slot has the same flag and KeyId and, for flag 1, source)
+ * and 15 (no free slot), in that order. Touches no other slot.
  *
  * edition is 2, and 1 for one of the older controllers that read LSB. A message does not tell it. Where an entry has the wrong one, every message of
  * its controller is refused with 11, as if the key were wrong: change the entry to the other edition (crisp_change), with the start that it has. Only
@@ -245,23 +256,24 @@ struct crisp_answer crisp_remove(uint8_t table[CRISP_AT_LEAST CRISP_TABLE], size
 
 /* Changes the entry in a slot to another one, in one move: a fresh entry of this key data, size and start stands there afterwards, or nothing has
  * happened at all. The arguments behind slot are those of crisp_install, and each byte of the slot becomes what an install would write there. Done
- * (0): slot is the slot; the entry has highest number 0, nothing accepted, totals 0. Refuses with 16 (slot over 15, or free), 13 (key data, size or
- * start unsound, as for crisp_install) and 14 (another occupied slot has the same flag and KeyId and, for flag 1, source), in that order. The slot's own
- * entry is no twin, so flag, KeyId and source may stay; a full table is no hindrance, so there is no 15; and whether the old entry is damaged is not
- * looked at. Touches no other slot. What stays of the key data is handed in again, from elsewhere than the table, for the call writes there.
+ * (0): slot is the slot; the entry has highest number 0, nothing accepted, totals and counters 0. Refuses with 16 (slot over 15, or free), 13 (key
+ * data, size or start unsound, as for crisp_install) and 14 (another occupied slot has the same flag and KeyId and, for flag 1, source), in that order.
+ * The slot's own entry is no twin, so flag, KeyId and source may stay; a full table is no hindrance, so there is no 15; and whether the old entry is
+ * damaged is not looked at. Touches no other slot. What stays of the key data is handed in again, from elsewhere than the table, for the call writes
+ * there.
  *
  * Use it where a controller gets another key, suite, edition, window or name. After crisp_remove the gateway is deaf to that controller (6) until
  * crisp_install is done, and stays so where that is refused; and the install takes the lowest free slot, which may be another one. Where a change is
- * refused, the old entry stands as it was, window and totals, and takes the next message.
+ * refused, the old entry stands as it was, window, totals and counters, and takes the next message.
  *
- * The old entry's history ends, and a new one begins. With a new key start is 0: an old message fails its check (11), as a forged one does. The same
+ * The old entry's history ends, and a new one begins. With a new key start is 0: an old message fails its check (11) and counts as forged. The same
  * key has a past: list the entry first, after its last arrival, and hand in as start the larger of its start and one more than its highest number, as
  * is said at crisp_install. Then nothing that was counted before the change is handed out after it. Changed to the same key with start 0, for another
  * window say, the entry lets its archive pass once more, in the order of its numbers all of it: each old message is genuine, its number is new to the
  * fresh entry, and it is booked a second time.
  *
  * The window does not come along. What is still under way is lost, with a start what lies below it (9) and with a new key what was made with the old
- * one (11): let it arrive first. The totals begin at 0, so save the old listing where they are to be answered for. And save the table, or a new
+ * one (11): let it arrive first. Totals and counters begin at 0, so save the old listing where they are to be answered for. And save the table, or a new
  * listing, afterwards: an old table has the old key, and an old listing the old window, which shuts out a controller that numbers its messages anew
  * with its new key (9, 10). */
 CRISP_CALL CRISP_READS(4, 5) CRISP_READS(6, 7) CRISP_READS(10, 11)
@@ -275,9 +287,17 @@ struct crisp_answer crisp_change(uint8_t table[CRISP_AT_LEAST CRISP_TABLE], size
  * are given before any cipher block is computed, and the output is written only after the check value was found right. Touches no other slot.
  * The output must not be where the message, the source or the table is: there is no opening in place.
  *
+ * What is turned away is counted in the entry that the message leads to: 9 and 10 add 1 to its `replays`, 11 adds 1 to its `forged`, up to
+ * CRISP_COUNTED, where a counter stays. That is all that they change. No other refusal counts or changes anything, not 7 and 8, nor 1, whatever the
+ * message would have met with enough room; and an accepted message leaves both counters as they are. crisp_listing shows them, and says below what they
+ * tell.
+ *
  * Save the table before the payload is used, and in the same file what is to become of the payload. After a restart, a table older than what was
  * used takes the same message as new; and one that was saved without the payload refuses it as repeated. examples/kept.c among the sources does
- * so. A gateway that has its key data from elsewhere may save the listing of the message's entry in the table's place (crisp_load). */
+ * so. A gateway that has its key data from elsewhere may save the listing of the message's entry in the table's place (crisp_load).
+ *
+ * A refusal need not be saved: a table from before it takes and refuses the same messages, only its counters are older. Save them now and then rather
+ * than at each refusal, or whoever can send anything at all makes the gateway write as often as he likes; examples/kept.c saves them when it ends. */
 CRISP_CALL CRISP_READS(2, 3) CRISP_READS(4, 5) CRISP_WRITES(6, 7)
 struct crisp_answer crisp_receive(uint8_t table[CRISP_AT_LEAST CRISP_TABLE], const uint8_t *message, size_t message_len, const uint8_t *source,
                                   size_t source_len, uint8_t *out, size_t out_len);
@@ -291,17 +311,24 @@ struct crisp_answer crisp_receive(uint8_t table[CRISP_AT_LEAST CRISP_TABLE], con
 CRISP_CALL CRISP_READS(2, 3) CRISP_WRITES(4, 5)
 struct crisp_answer crisp_protect(struct crisp_sender *sender, const uint8_t *payload, size_t payload_len, uint8_t *out, size_t out_len);
 
-/* Writes the entry in a slot as text, from `slot=` to `bytes=`, each line ended by a line feed; `edition=`, in decimal, follows `suite=`. Done (0):
- * the text stands at the start of the output, without a zero behind it, later bytes stay; length is the text's, slot the slot. Refuses with 1 (output
- * under 2,048 bytes), 16 (slot over 15, or free) and 7 (record damaged), in that order. Does not touch the table. */
+/* Writes the entry in a slot as text, from `slot=` to `forged=`, each line ended by a line feed; `edition=`, in decimal, follows `suite=`, and the
+ * counters `replays=` and `forged=`, in decimal, follow `bytes=`. Done (0): the text stands at the start of the output, without a zero behind it, later
+ * bytes stay; length is the text's, slot the slot. Refuses with 1 (output under 2,048 bytes), 16 (slot over 15, or free) and 7 (record damaged), in that
+ * order. Does not touch the table.
+ *
+ * What the counters tell, best by how they grow from one listing to the next: `replays` are messages whose number was accepted before or is too old
+ * (10, 9). A controller repeats itself or began its numbers anew, a path delivers twice or late, or someone plays old messages back. `forged` are
+ * messages with a number that would do and a wrong check value (11). Someone is guessing, the line is noisy or, where nothing at all is accepted, the
+ * entry has another key or edition than its controller. The number is looked at first, so a forged message with an old number is among the replays. Both
+ * count what arrived under the entry's name, whoever sent it, and prove nothing against a controller. */
 CRISP_CALL CRISP_WRITES(3, 4)
 struct crisp_answer crisp_listing(const uint8_t table[CRISP_AT_LEAST CRISP_TABLE], size_t slot, uint8_t *out, size_t out_len);
 
-/* Loads a listing back: the entry that it lists, which was installed anew and has accepted nothing yet, takes the listed highest number, marks and
- * totals, so that after a restart its window is as it was. Done (0): slot is the entry's; a listing of it is the text again. What was accepted before
- * the text was made is refused (10, or 9 below the window), and the totals go on from the listed ones. Touches nothing else of the slot, and no other
- * slot. Refuses, in that order, with
- *   21  where the text is not in the form that crisp_listing writes: the twelve lines in their order, each ended by one line feed, nothing behind the
+/* Loads a listing back: the entry that it lists, which was installed anew and has accepted nothing yet, takes the listed highest number, marks, totals
+ * and counters, so that after a restart it is as it was. Done (0): slot is the entry's; a listing of it is the text again. What was accepted before
+ * the text was made is refused (10, or 9 below the window), and totals and counters go on from the listed ones. Touches nothing else of the slot, and no
+ * other slot. Refuses, in that order, with
+ *   21  where the text is not in the form that crisp_listing writes: the fourteen lines in their order, each ended by one line feed, nothing behind the
  *       last, no spaces; decimals without leading zeros and at most 2^64 - 1; hex in lower case, 12 digits of `highest=` and 64 of `marks=`, of `keyid=`
  *       and `source=` any even count;
  *   22  where no such entry stands: the slot is over 15 or free, or its flag, KeyId, source, suite, edition, size or start is another, or its
@@ -313,8 +340,10 @@ struct crisp_answer crisp_listing(const uint8_t table[CRISP_AT_LEAST CRISP_TABLE
  * so install in the slots' order, and where one in between was free, put an entry there that is removed afterwards. Whether the key is the old one
  * cannot be seen: with another one each message that is not refused with 9 or 10 is then refused with 11. Only an entry that has accepted nothing takes a
  * listing; where it took a wrong one, change it to its own key data, size and start, and load the right one before anything arrives. The entry's highest
- * number, marks and byte total of before are not looked at, so a record with accepted 0 that is damaged in these alone is mended. A listing by version 1 or 2 has no line
- * `edition=`, and one by version 1 no `start=`, so it is refused with 21: it loads once `edition=2` was put behind `suite=`, and `start=0` behind `size=`.
+ * number, marks, byte total and counters of before are not looked at, so a record with accepted 0 that is damaged in these alone is mended, and what was
+ * turned away between the install and the load is not in the counters. A listing by version 3 or earlier has no lines `replays=` and `forged=`, one by
+ * version 1 or 2 no `edition=`, and one by version 1 no `start=`, so it is refused with 21: it loads once `replays=0` and `forged=0` were put behind
+ * `bytes=`, `edition=2` behind `suite=`, and `start=0` behind `size=`.
  *
  * An old text is as bad as an old table: each message that was accepted after it was made can pass once more. So list after the last arrival, save the
  * text before the payload is used, and in the same file what is to become of the payload. Nothing in the text shows that it was changed. Whoever can
@@ -333,9 +362,9 @@ struct crisp_answer crisp_load(uint8_t table[CRISP_AT_LEAST CRISP_TABLE], const 
  *         if (r.reply == CRISP_DONE) arrives(file + r.message, r.next - r.message, file + r.source, r.message - r.source);
  *
  * Where a record runs past the end, its reply 18 is the last before CRISP_END. What was received before it stands. A file that is read once more,
- * whatever other files came in between, hands out nothing, unless entries were installed, removed or changed, or a listing was loaded, since; an entry
- * that is installed with a start above the file's numbers, or changed to one, or has loaded a listing from after the file was read, hands out nothing of
- * it either. examples/capture.c among the sources reads a file so.
+ * whatever other files came in between, hands out nothing and changes nothing but counters, unless entries were installed, removed or changed, or a
+ * listing was loaded, since; an entry that is installed with a start above the file's numbers, or changed to one, or has loaded a listing from after
+ * the file was read, hands out nothing of it either. examples/capture.c among the sources reads a file so.
  *
  * The first answers the order of the file's numbers, 1 (highest byte first) or 2 (lowest), or 17 (header bad, or size not 24 to 65,536 bytes). Hand
  * the order to the second as it came. */

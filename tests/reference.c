@@ -174,9 +174,12 @@ static int sound(u8 flag, const u8 *keyid, size_t keyid_len, size_t source_len, 
 /* ---- the table: where the parts of an entry stand in its slot (docs/DECISIONS.md, 13) */
 
 enum { SLOT = 288, FLAG = 1, SUITE = 2, EDITION = 3, KEYID_LEN = 4, KEYID = 5, SOURCE_LEN = 133, SOURCE = 134, KEY = 166, SIZE = 198, START = 206,
-       HIGHEST = 214, MARKS = 222, ACCEPTED = 254, BYTES = 262 };
+       HIGHEST = 214, MARKS = 222, ACCEPTED = 254, BYTES = 262, REPLAYS = 270, FORGED = 278 };
 
 #define LAST 0xffffffffffffULL
+
+/* document 02, No. 8: where a counter stops */
+#define LIMIT 0xffffffffULL
 
 static int matches(const u8 *s, u8 flag, const u8 *keyid, size_t keyid_len, const u8 *source, size_t source_len)
 {
@@ -228,7 +231,8 @@ static int undamaged(const u8 *s)
     if (w.highest > 0 && !mark(&w, 0)) return 0;
     u64 accepted = get(s + ACCEPTED, 8);
     if (accepted < count || accepted > count + floor - w.start) return 0;
-    return get(s + BYTES, 8) <= 2034 * accepted;        /* accepted is below 2^49 here */
+    if (get(s + BYTES, 8) > 2034 * accepted) return 0;          /* accepted is below 2^49 here */
+    return get(s + REPLAYS, 8) <= LIMIT && get(s + FORGED, 8) <= LIMIT;
 }
 
 /* all marks move up by d, and those above the window go */
@@ -255,13 +259,22 @@ static void take(u8 *s, u64 seqnum, u64 length)
     set(s + BYTES, 8, get(s + BYTES, 8) + length);
 }
 
+/* document 02, No. 8: an arrival that 9 or 10 refuses is a replay, one that 11 refuses is forged. Its counter is the only thing that changes. */
+static answer turn_away(u8 *s, u64 reply)
+{
+    u8 *counter = s + (reply == 11 ? FORGED : REPLAYS);
+    u64 count = get(counter, 8);
+    if (count < LIMIT) set(counter, 8, count + 1);
+    return refuse(reply);
+}
+
 /* soundness, for an entry: the key data's, and that of Size and, as document 02, No. 2, has it, of start */
 static int sound_entry(u8 flag, const u8 *keyid, size_t keyid_len, size_t source_len, u8 suite, u8 edition, size_t key_len, u64 size, u64 start)
 {
     return sound(flag, keyid, keyid_len, source_len, suite, edition, key_len) && size >= 1 && size <= 256 && start <= LAST;
 }
 
-/* a fresh entry: highest 0, no mark, totals 0, and zeros past its KeyId and its source, whatever stood in the slot */
+/* a fresh entry: highest 0, no mark, totals and counters 0, and zeros past its KeyId and its source, whatever stood in the slot */
 static void write_fresh(u8 *s, u8 flag, const u8 *keyid, size_t keyid_len, const u8 *source, size_t source_len, u8 suite, u8 edition, const u8 *key,
                         u64 size, u64 start)
 {
@@ -331,12 +344,12 @@ answer ref_receive(u8 *table, const u8 *m, size_t n, const u8 *source, size_t so
     if (s[SUITE] != suite) return refuse(8);
     struct window w = window_in(s);
     u64 seqnum = get(m + 3 + length, 6);
-    if (seqnum < floor_of(&w)) return refuse(9);
-    if (seqnum <= w.highest && mark(&w, w.highest - seqnum)) return refuse(10);
+    if (seqnum < floor_of(&w)) return turn_away(s, 9);
+    if (seqnum <= w.highest && mark(&w, w.highest - seqnum)) return turn_away(s, 10);
     u32 base[8];
     ref_key(s + KEY, base);
     struct subkeys sub = subkeys(base);
-    if (get(m + n - icv, icv) != icv_of(base, sub, suite, s[EDITION], s + SOURCE, s[SOURCE_LEN], seqnum, m, n - icv)) return refuse(11);
+    if (get(m + n - icv, icv) != icv_of(base, sub, suite, s[EDITION], s + SOURCE, s[SOURCE_LEN], seqnum, m, n - icv)) return turn_away(s, 11);
     size_t payload = n - icv - (9 + length);
     encipher(base, sub, suite, s[EDITION], s + SOURCE, s[SOURCE_LEN], seqnum, m + 9 + length, payload, out);
     take(s, seqnum, payload);
@@ -380,14 +393,16 @@ answer ref_listing(const u8 *table, size_t slot, u8 *out, size_t out_len)
                  (unsigned long long)get(s + SIZE, 8), (unsigned long long)get(s + START, 8), (unsigned long long)get(s + HIGHEST, 8));
     for (int i = 0; i < 32; i++) p += sprintf(p, "%02x", s[MARKS + i]);
     p += sprintf(p, "\naccepted=%llu\nbytes=%llu\n", (unsigned long long)get(s + ACCEPTED, 8), (unsigned long long)get(s + BYTES, 8));
+    p += sprintf(p, "replays=%llu\nforged=%llu\n", (unsigned long long)get(s + REPLAYS, 8), (unsigned long long)get(s + FORGED, 8));
     memcpy(out, text, (size_t)(p - text));
     return done((size_t)(p - text), slot, 0);
 }
 
-/* ---- a listing loaded back: document 02, No. 6 */
+/* ---- a listing loaded back: document 02, No. 6, with the two lines that No. 8 puts at its end */
 
 /* the lines in their order: the name, and what has to follow it, a decimal, an even count of hex digits, or so many of them */
-enum { AT_SLOT, AT_FLAG, AT_KEYID, AT_SOURCE, AT_SUITE, AT_EDITION, AT_SIZE, AT_START, AT_HIGHEST, AT_MARKS, AT_ACCEPTED, AT_BYTES, LINES };
+enum { AT_SLOT, AT_FLAG, AT_KEYID, AT_SOURCE, AT_SUITE, AT_EDITION, AT_SIZE, AT_START, AT_HIGHEST, AT_MARKS, AT_ACCEPTED, AT_BYTES,
+       AT_REPLAYS, AT_FORGED, LINES };
 enum { DECIMAL = -1, EVEN = 0 };
 
 static const struct {
@@ -395,7 +410,7 @@ static const struct {
     int digits;
 } lines[LINES] = {
     {"slot=", DECIMAL}, {"flag=", DECIMAL}, {"keyid=", EVEN}, {"source=", EVEN}, {"suite=", DECIMAL}, {"edition=", DECIMAL}, {"size=", DECIMAL},
-    {"start=", DECIMAL}, {"highest=", 12}, {"marks=", 64}, {"accepted=", DECIMAL}, {"bytes=", DECIMAL},
+    {"start=", DECIMAL}, {"highest=", 12}, {"marks=", 64}, {"accepted=", DECIMAL}, {"bytes=", DECIMAL}, {"replays=", DECIMAL}, {"forged=", DECIMAL},
 };
 
 /* what stands behind the name, and of a decimal its number */
@@ -463,7 +478,7 @@ static int writes(const struct value *v, const u8 *bytes, size_t n)
     return 1;
 }
 
-/* the entry that is listed, with accepted 0; a stored length over its room is no entry's, as in a lookup */
+/* the entry that is listed, with accepted 0, whatever its counters are; a stored length over its room is no entry's, as in a lookup */
 static int stands(const u8 *table, const struct value v[LINES])
 {
     if (v[AT_SLOT].number > 15) return 0;
@@ -494,6 +509,8 @@ answer ref_load(u8 *table, const u8 *text, size_t n)
     for (size_t i = 0; i < 32; i++) loaded[MARKS + i] = hex_byte(v[AT_MARKS].text + 2 * i);
     set(loaded + ACCEPTED, 8, v[AT_ACCEPTED].number);
     set(loaded + BYTES, 8, v[AT_BYTES].number);
+    set(loaded + REPLAYS, 8, v[AT_REPLAYS].number);
+    set(loaded + FORGED, 8, v[AT_FORGED].number);
     if (!undamaged(loaded)) return refuse(23);
     memcpy(s, loaded, SLOT);
     return done(0, slot, 0);
