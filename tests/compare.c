@@ -1,7 +1,8 @@
 /* compare.c: runs the library beside the second implementation (reference.c) on seeded random sequences of calls and on sweeps, and compares after
  * every call the four numbers of the answer, all bytes of the table, of the sender's record and of the output. At times all entries are listed, the table
  * is lost, and their listings are loaded: the table must be what it was, and the same calls, loads among them, must then do the same on both. Each change
- * is held against a removal and an install. At the first difference it prints the sequence that showed it and stops.
+ * is held against a removal and an install. What a refusal leaves is asked besides, without the second implementation: nothing but the one counter of an
+ * arrival that is turned away. At the first difference it prints the sequence that showed it and stops.
  *
  *   compare [SEQUENCES [SEED]]        100000 sequences and seed 1 where nothing is said */
 #include "crisp.h"
@@ -17,10 +18,17 @@ enum { ENTRIES = 24, KEPT = 64, PRINTED = 16, ROOM = 2304 };
 
 /* of a slot: its bytes, and where its parts stand in it */
 enum { SLOT = CRISP_TABLE / CRISP_SLOTS, FLAG = 1, SUITE = 2, EDITION = 3, KEYID_LEN = 4, KEYID = 5, SOURCE_LEN = 133, SOURCE = 134, KEY = 166,
-       SIZE = 198, START = 206, HIGHEST = 214, ACCEPTED = 254 };
+       SIZE = 198, START = 206, HIGHEST = 214, ACCEPTED = 254, REPLAYS = 270, FORGED = 278, BEHIND_COUNTERS = 286 };
 
 /* a suite with these bits changed is the one that has the other length of check value: 1 and 241, 2 and 242 */
 enum { OTHER_LENGTH = 0xf0 };
+
+static uint64_t number_at(const uint8_t *p)
+{
+    uint64_t x = 0;
+    for (int i = 0; i < 8; i++) x = x << 8 | p[i];
+    return x;
+}
 
 static int is_long(uint8_t suite) { return suite == CRISP_MAGMA_CTR_LONG || suite == CRISP_MAGMA_NULL_LONG; }
 
@@ -84,9 +92,9 @@ enum entry { OF_SLOT, OF_FLAG, OF_KEYID, OF_SOURCE, OF_SUITE, OF_EDITION, OF_SIZ
 static const char *const entry_names[ENTRY] = {"slot", "flag", "KeyId", "source", "suite", "edition", "Size", "start", "accepted", "freed", "long KeyId",
                                                "long source"};
 static uint64_t by_entry[ENTRY];
-enum record { OUTSIDE_WINDOW, UNDER_START, UNDER_ZERO, UNMARKED, FEW, MANY, MANY_BYTES, KEY_DATA, RECORD };
+enum record { OUTSIDE_WINDOW, UNDER_START, UNDER_ZERO, UNMARKED, FEW, MANY, MANY_BYTES, MANY_REPLAYS, MANY_FORGED, KEY_DATA, RECORD };
 static const char *const record_names[RECORD] = {"mark below the window", "below start", "below 0", "highest unmarked", "accepted too few", "too many",
-                                                 "bytes", "key data"};
+                                                 "bytes", "replays", "forged", "key data"};
 static uint64_t by_record[RECORD];
 
 /* what loads did: the entry's own listing, and an older one, loaded; any that was printed before, loaded and refused; another slot's with this slot's number;
@@ -125,11 +133,41 @@ static const char *const after_names[AFTERS] = {"handed out again", "below the n
                                                 "next, new key", "next, refused change", "next, at a twin"};
 static uint64_t by_after[AFTERS];
 
+/* arrivals that were turned away: counted by 9, by 10 and by 11; those of them that took a counter to its limit, and those that found it there; with 1,
+ * and with 8, that had been counted with room, or by the entry's suite; refused with 7 for a counter alone, and entries not listed for one */
+enum turned { BY_9, BY_10, BY_11, LAST_REPLAY, LAST_FORGED, REPLAYS_STAY, FORGED_STAY, NO_ROOM, BY_SUITE, BAD_REPLAYS, BAD_FORGED, NOT_LISTED, TURNED };
+static const char *const turned_names[TURNED] = {"by 9", "by 10", "by 11", "replays to the limit", "forged to it", "replays at it", "forged at it",
+                                                 "without room", "of another suite", "damaged replays", "damaged forged", "not listed"};
+static uint64_t by_turned[TURNED];
+
+/* counters that an entry was given, by hand or in a text: next to the limit, at it, next over it, and the largest */
+enum given { BELOW_LIMIT, AT_LIMIT, OVER_LIMIT, LARGEST, GIVEN };
+static const char *const given_names[2 * GIVEN] = {"replays 2^32 - 2", "2^32 - 1", "2^32", "2^64 - 1", "forged 2^32 - 2", "2^32 - 1", "2^32", "2^64 - 1"};
+static uint64_t by_given[2 * GIVEN];
+
+/* texts with such counters: loaded, with one within its limit and with one at it, and refused with 23, with one over it */
+enum told { TOLD_WITHIN, TOLD_AT, TOLD_OVER, TOLD };
+static const char *const told_names[2 * TOLD] = {"replays within", "at the limit", "over it", "forged within", "at the limit", "over it"};
+static uint64_t by_told[2 * TOLD];
+
 static void differs(const char *what)
 {
     printf("compare: %s differs after\n%.*s\n", what, (int)(traced < sizeof trace ? traced : sizeof trace), trace);
     exit(1);
 }
+
+/* ---- what stood before a call, for what the comparison asks of the library alone */
+
+static uint8_t table_before[CRISP_TABLE], out_before[ROOM];
+
+static void before_call(void)
+{
+    memcpy(table_before, table, CRISP_TABLE);
+    memcpy(out_before, out, ROOM);
+}
+
+/* whether a refusal is counted; all others change nothing */
+static int is_counted(enum call call, uint64_t reply) { return call == RECEIVE && reply >= 9 && reply <= 11; }
 
 static void agree(enum call call, struct crisp_answer a, struct crisp_answer b)
 {
@@ -140,15 +178,20 @@ static void agree(enum call call, struct crisp_answer a, struct crisp_answer b)
     if (call == CHANGE && a.reply && a.reply != 16 && a.reply != 13 && a.reply != 14) differs("a reply that no change has");
     if (memcmp(table, ref_table, CRISP_TABLE)) differs("the table");
     if (memcmp(out, ref_out, ROOM)) differs("the output");
+    if (a.reply && (a.length || a.slot || a.seqnum)) differs("what a refusal answers beside its number");
+    if (a.reply && memcmp(out, out_before, ROOM)) differs("the output after a refusal");
+    if (a.reply && !is_counted(call, a.reply) && memcmp(table, table_before, CRISP_TABLE)) differs("the table after a refusal");
     replies[call][a.reply]++;
     compared++;
     answered = a;
 }
 
+/* for a call that may write an output */
 static void same_outputs(void)
 {
     fill(out, ROOM);
     memcpy(ref_out, out, ROOM);
+    before_call();
 }
 
 /* ---- senders with their key data, from which entries are installed */
@@ -209,6 +252,7 @@ static void call_install(const struct crisp_sender *s, uint8_t edition, uint64_t
     say_bytes("keyid", s->keyid, s->keyid_len);
     say_bytes("source", s->source, s->source_len);
     say_bytes("key", key, key_len);
+    before_call();
     struct crisp_answer a = crisp_install(table, s->flag, s->keyid, s->keyid_len, s->source, s->source_len, s->suite, edition, key, key_len, size, start);
     struct crisp_answer b = ref_install(ref_table, s->flag, s->keyid, s->keyid_len, s->source, s->source_len, s->suite, edition, key, key_len, size,
                                         start);
@@ -229,6 +273,7 @@ static void call_install(const struct crisp_sender *s, uint8_t edition, uint64_t
 static void call_remove(size_t slot)
 {
     say("remove %zu", slot);
+    before_call();
     struct crisp_answer a = crisp_remove(table, slot);
     agree(REMOVE, a, ref_remove(ref_table, slot));
 }
@@ -322,6 +367,7 @@ static void call_change(size_t slot, const struct next *n)
     say_bytes("keyid", keyid, s->keyid_len);
     say_bytes("source", source, s->source_len);
     say_bytes("key", key, n->key_len);
+    before_call();
     struct crisp_answer a = crisp_change(table, slot, s->flag, keyid, s->keyid_len, source, s->source_len, s->suite, s->edition, key, n->key_len,
                                          n->size, n->start);
     struct crisp_answer b = ref_change(ref_table, slot, s->flag, keyid, s->keyid_len, source, s->source_len, s->suite, s->edition, key, n->key_len,
@@ -334,8 +380,73 @@ static void call_change(size_t slot, const struct next *n)
     if (a.reply == 13 && only_fault(n) != UNSOUND) by_unsound[only_fault(n)]++;
 }
 
-/* the table with start 0 in each slot, with edition 2, or with the other edition */
-enum otherwise { NO_START, SECOND, OTHER, OTHERWISE };
+/* ---- counters, asked of the library alone */
+
+/* the slot that a message leads to: the lowest occupied one with its flag and KeyId and, for flag 1, the source that came with it */
+static size_t leads_to(const uint8_t *slots, const uint8_t *message, const uint8_t *source, size_t source_len)
+{
+    size_t n = message[3] <= 0x80 ? 1 : message[3] - 0x7fu;
+    for (size_t i = 0; i < CRISP_SLOTS; i++) {
+        const uint8_t *s = slots + SLOT * i;
+        if (!s[0] || !within_room(s) || s[FLAG] != message[0] >> 7 || s[KEYID_LEN] != n || memcmp(s + KEYID, message + 3, n)) continue;
+        if (s[FLAG] == 0 || (s[SOURCE_LEN] == source_len && !memcmp(s + SOURCE, source, source_len))) return i;
+    }
+    differs("the entry of an arrival, of which there is none,");
+    return 0;
+}
+
+/* An arrival is turned away: 9 and 10 add one to the replays of its entry, 11 to its forged, and at the limit a counter stays. Nothing else changes. */
+static void counts_one(uint64_t reply, const uint8_t *message, const uint8_t *source, size_t source_len)
+{
+    static const uint8_t limit[8] = {0, 0, 0, 0, 0xff, 0xff, 0xff, 0xff};
+    static uint8_t expected[CRISP_TABLE];
+    memcpy(expected, table_before, CRISP_TABLE);
+    uint8_t *slot = expected + SLOT * leads_to(expected, message, source, source_len), *counter = slot + (reply == 11 ? FORGED : REPLAYS);
+    if (memcmp(slot + REPLAYS, limit, 8) > 0 || memcmp(slot + FORGED, limit, 8) > 0) differs("the reply at a damaged counter");
+    int stays = !memcmp(counter, limit, 8), i = 7;
+    if (!stays)
+        while (++counter[i] == 0) i--;
+    if (memcmp(table, expected, CRISP_TABLE)) differs("the table after an arrival was turned away");
+    by_turned[BY_9 + (int)reply - 9]++;
+    if (stays) by_turned[reply == 11 ? FORGED_STAY : REPLAYS_STAY]++;
+    else if (!memcmp(counter, limit, 8)) by_turned[reply == 11 ? LAST_FORGED : LAST_REPLAY]++;
+}
+
+/* an accepted message moves no counter */
+static void counts_none(void)
+{
+    for (size_t at = 0; at < CRISP_TABLE; at += SLOT)
+        if (memcmp(table + at + REPLAYS, table_before + at + REPLAYS, 16)) differs("a counter after an accepted message");
+}
+
+/* the last two lines of a listing are the slot's counters */
+static void ends_with_counters(const uint8_t *slot, const uint8_t *text, size_t n)
+{
+    char lines[64];
+    size_t length = (size_t)snprintf(lines, sizeof lines, "\nreplays=%llu\nforged=%llu\n", (unsigned long long)number_at(slot + REPLAYS),
+                                     (unsigned long long)number_at(slot + FORGED));
+    if (n < length || memcmp(text + n - length, lines, length)) differs("the end of a listing");
+}
+
+/* a text that was loaded, or refused with 23, tells two counters: loaded, none is over its limit, and the entry has them */
+static void count_told(uint64_t reply, const uint8_t *text, size_t n)
+{
+    static const char *const names[2] = {"\nreplays=", "\nforged="};
+    for (int which = 0; which < 2; which++) {
+        size_t length = strlen(names[which]), i = 0;
+        while (i + length < n && memcmp(text + i, names[which], length)) i++;
+        if (i + length >= n) differs("a text without its counters");
+        uint64_t x = strtoull((const char *)text + i + length, NULL, 10);
+        enum told told = x < CRISP_COUNTED ? TOLD_WITHIN : x == CRISP_COUNTED ? TOLD_AT : TOLD_OVER;
+        if ((reply == 0) == (told != TOLD_OVER)) by_told[TOLD * which + (int)told]++;
+        if (reply == 0 && (told == TOLD_OVER || number_at(table + SLOT * answered.slot + (which ? FORGED : REPLAYS)) != x)) differs("a loaded counter");
+    }
+}
+
+/* ---- what other replies would have met */
+
+/* the table with start 0 in each slot, with edition 2, with the other edition, or with counters 0 */
+enum otherwise { NO_START, SECOND, OTHER, NO_COUNTERS, OTHERWISE };
 
 static uint8_t *table_with(enum otherwise what)
 {
@@ -343,6 +454,7 @@ static uint8_t *table_with(enum otherwise what)
     memcpy(other, ref_table, CRISP_TABLE);
     for (uint8_t *slot = other; slot < other + CRISP_TABLE; slot += SLOT)
         if (what == NO_START) memset(slot + START, 0, 8);
+        else if (what == NO_COUNTERS) memset(slot + REPLAYS, 0, 16);
         else slot[EDITION] = what == SECOND ? 2 : (uint8_t)(3 - slot[EDITION]);
     return other;
 }
@@ -358,6 +470,10 @@ static void count_refused(uint64_t reply, const uint8_t *message, size_t n, cons
     if (reply == 7 && with[NO_START] != 7) by_start[DAMAGED_START]++;
     if (reply == 7 && with[SECOND] != 7) by_edition[DAMAGED_EDITION]++;
     if (reply == 11 && with[OTHER] == 0) by_edition[OTHER_EDITION]++;
+    if (reply != 7 || with[NO_COUNTERS] == 7) return;
+    const uint8_t *slot = ref_table + SLOT * leads_to(ref_table, message, source, source_len);
+    by_turned[BAD_REPLAYS] += number_at(slot + REPLAYS) > CRISP_COUNTED;
+    by_turned[BAD_FORGED] += number_at(slot + FORGED) > CRISP_COUNTED;
 }
 
 /* so is one that another reply would have met as a message with the other length of check value */
@@ -372,6 +488,18 @@ static void count_length(uint64_t reply, const uint8_t *message, size_t n, const
     if (reply == 8 && with != 8 && with != 5) by_suite[NOT_ITS_LENGTH]++;
 }
 
+/* and one that is not counted, but would have been with room, or in the entry's suite */
+static void count_uncounted(uint64_t reply, const uint8_t *message, size_t n, const uint8_t *source, size_t source_len)
+{
+    static uint8_t other[CRISP_TABLE], other_out[ROOM], bytes[2048];
+    if (n > sizeof bytes) return;
+    memcpy(other, ref_table, CRISP_TABLE);
+    memcpy(bytes, message, n);
+    if (reply == 8) bytes[2] = ref_table[SLOT * leads_to(ref_table, message, source, source_len) + SUITE];
+    uint64_t with = ref_receive(other, bytes, n, source, source_len, other_out, 2048).reply;
+    if (is_counted(RECEIVE, with)) by_turned[reply == 8 ? BY_SUITE : NO_ROOM]++;
+}
+
 static void call_receive(const uint8_t *message, size_t n, const uint8_t *source, size_t source_len, size_t room)
 {
     say("receive out=%zu", room);
@@ -380,6 +508,9 @@ static void call_receive(const uint8_t *message, size_t n, const uint8_t *source
     same_outputs();
     struct crisp_answer a = crisp_receive(table, message, n, source, source_len, out, room);
     agree(RECEIVE, a, ref_receive(ref_table, message, n, source, source_len, ref_out, room));
+    if (is_counted(RECEIVE, a.reply)) counts_one(a.reply, message, source, source_len);
+    if (a.reply == 0) counts_none();
+    if (a.reply == 1 || a.reply == 8) count_uncounted(a.reply, message, n, source, source_len);
     if (a.reply == 7 || a.reply == 9 || a.reply == 11) count_refused(a.reply, message, n, source, source_len, room);
     if (a.reply == 5 || a.reply == 8) count_length(a.reply, message, n, source, source_len);
     if (a.reply == 0 && is_long(message[2])) by_suite[LONG_TAKEN]++;
@@ -387,11 +518,14 @@ static void call_receive(const uint8_t *message, size_t n, const uint8_t *source
 
 static void call_listing(size_t slot, size_t room)
 {
+    static uint8_t other[ROOM];
     say("listing %zu out=%zu", slot, room);
     same_outputs();
     struct crisp_answer a = crisp_listing(table, slot, out, room);
     agree(LISTING, a, ref_listing(ref_table, slot, ref_out, room));
+    if (a.reply == 7) by_turned[NOT_LISTED] += ref_listing(table_with(NO_COUNTERS), slot, other, room).reply != 7;
     if (a.reply) return;
+    ends_with_counters(table + SLOT * slot, out, a.length);
     struct text *t = &printed[prints++ % PRINTED];
     memcpy(t->bytes, out, a.length);
     t->length = a.length;
@@ -401,8 +535,10 @@ static uint64_t call_load(const uint8_t *text, size_t n)
 {
     say("load");
     say_bytes("text", text, n);
+    before_call();
     struct crisp_answer a = crisp_load(table, text, n);
     agree(LOAD, a, ref_load(ref_table, text, n));
+    if (a.reply == 0 || a.reply == 23) count_told(a.reply, text, n);
     return a.reply;
 }
 
@@ -530,16 +666,17 @@ static void random_receive(void)
 
 static void random_damage(void)
 {
-    size_t at = below(4) ? SLOT * below(16) + below(SLOT) : SLOT * below(3) + (below(3) ? SIZE + below(72) : SUITE + below(2));
+    size_t at = below(4) ? SLOT * below(16) + below(SLOT) : SLOT * below(3) + (below(3) ? SIZE + below(BEHIND_COUNTERS - SIZE) : SUITE + below(2));
     uint8_t x = below(2) ? some_byte() : (uint8_t)(table[at] ^ (below(4) ? 1 << below(8) : OTHER_LENGTH));
     put(at, x);
 }
 
 /* ---- texts of listings, line by line */
 
-enum { AT_SLOT, AT_FLAG, AT_KEYID, AT_SOURCE, AT_SUITE, AT_EDITION, AT_SIZE, AT_START, AT_HIGHEST, AT_MARKS, AT_ACCEPTED, AT_BYTES, LINES };
+enum { AT_SLOT, AT_FLAG, AT_KEYID, AT_SOURCE, AT_SUITE, AT_EDITION, AT_SIZE, AT_START, AT_HIGHEST, AT_MARKS, AT_ACCEPTED, AT_BYTES,
+       AT_REPLAYS, AT_FORGED, LINES };
 static const char *const line_names[LINES] = {"slot", "flag", "keyid", "source", "suite", "edition", "size", "start", "highest", "marks", "accepted",
-                                              "bytes"};
+                                              "bytes", "replays", "forged"};
 
 struct lines {
     char of[LINES][640];                        /* what stands behind the name */
@@ -587,9 +724,9 @@ static void set_hex(struct lines *l, int line, const uint8_t *bytes, size_t n)
     l->of[line][2 * n] = 0;
 }
 
-/* highest number, marks and totals, with the bounds that Size and start set them */
+/* highest number, marks, totals and counters, with the bounds that Size and start set them */
 struct history {
-    uint64_t size, start, highest, old_floor, floor, count, accepted, bytes;
+    uint64_t size, start, highest, old_floor, floor, count, accepted, bytes, replays, forged;
     uint8_t marks[32];
 };
 
@@ -604,7 +741,8 @@ static void set_highest(struct history *h, uint64_t highest)
 
 static void history_in(const struct lines *l, struct history *h)
 {
-    *h = (struct history){.size = number(l, AT_SIZE), .start = number(l, AT_START), .accepted = number(l, AT_ACCEPTED), .bytes = number(l, AT_BYTES)};
+    *h = (struct history){.size = number(l, AT_SIZE), .start = number(l, AT_START), .accepted = number(l, AT_ACCEPTED), .bytes = number(l, AT_BYTES),
+                          .replays = number(l, AT_REPLAYS), .forged = number(l, AT_FORGED)};
     set_highest(h, number(l, AT_HIGHEST));
     for (size_t i = 0; i < 32; i++) {
         char digits[3] = {l->of[AT_MARKS][2 * i], l->of[AT_MARKS][2 * i + 1], 0};
@@ -617,6 +755,7 @@ static void put_history(struct lines *l, const struct history *h)
 {
     set_number(l, AT_HIGHEST, h->highest), set_hex(l, AT_MARKS, h->marks, 32);
     set_number(l, AT_ACCEPTED, h->accepted), set_number(l, AT_BYTES, h->bytes);
+    set_number(l, AT_REPLAYS, h->replays), set_number(l, AT_FORGED, h->forged);
 }
 
 /* ---- an entry that stands anew */
@@ -627,13 +766,6 @@ static struct crisp_answer install_filler(size_t slot)
     struct crisp_sender s = {.keyid = {0x82, 0xf1, (uint8_t)slot}, .keyid_len = 3, .source = "fill", .source_len = 4, .suite = 2};
     call_install(&s, 2, 1, 0, 32);
     return answered;
-}
-
-static uint64_t number_at(const uint8_t *p)
-{
-    uint64_t x = 0;
-    for (int i = 0; i < 8; i++) x = x << 8 | p[i];
-    return x;
 }
 
 /* the key data, Size and start that stand in a slot */
@@ -686,6 +818,33 @@ static int stands_again(size_t slot)
 
 /* ---- random loads */
 
+/* that number, or any above it */
+static uint64_t at_least(uint64_t x) { return below(2) ? x : x + below(UINT64_MAX - x); }
+
+/* a counter within its limit, often at it or one below, or where the next one carries */
+static uint64_t some_counter(void)
+{
+    switch (below(8)) {
+    case 0: case 1: return CRISP_COUNTED - 1;
+    case 2: return CRISP_COUNTED;
+    case 3: return CRISP_COUNTED - below(6);
+    case 4: return (1ULL << 8 * (1 + below(4))) - 1;
+    case 5: return below(CRISP_COUNTED);
+    default: return below(4);
+    }
+}
+
+/* one over it */
+static uint64_t over_limit(void)
+{
+    switch (below(4)) {
+    case 0: return CRISP_COUNTED + 1ULL;
+    case 1: return UINT64_MAX;
+    case 2: return 1ULL << (32 + below(32));
+    default: return at_least(CRISP_COUNTED + 1ULL);
+    }
+}
+
 /* a history that an entry of this Size and start may have, often at its bounds */
 static void make_history(struct history *h)
 {
@@ -697,6 +856,7 @@ static void make_history(struct history *h)
         if ((i == 0 && h->highest > 0) || below(2)) turn(h, i), h->count++;
     h->accepted = h->count + (below(2) ? below(h->floor - h->start + 1) : below(2) ? h->floor - h->start : 0);
     h->bytes = below(2) ? CRISP_PAYLOAD * h->accepted : below(CRISP_PAYLOAD * h->accepted + 1);
+    h->replays = some_counter(), h->forged = some_counter();
 }
 
 /* another one in a text */
@@ -705,9 +865,6 @@ static void remake_history(struct lines *l)
     struct history h;
     history_in(l, &h), make_history(&h), put_history(l, &h);
 }
-
-/* that number, or any above it */
-static uint64_t at_least(uint64_t x) { return below(2) ? x : x + below(UINT64_MAX - x); }
 
 /* what is wrong with a mark of that place, or RECORD */
 static enum record outside(const struct history *h, uint64_t i)
@@ -733,6 +890,8 @@ static int damage_history(struct history *h, enum record way)
         if (h->count == 0) return 0;
         return h->accepted = below(2) ? h->count - 1 : below(h->count), h->bytes = 0, 1;
     case MANY: return h->accepted = at_least(most + 1), h->bytes = 0, 1;
+    case MANY_REPLAYS: return h->replays = over_limit(), 1;
+    case MANY_FORGED: return h->forged = over_limit(), 1;
     default: return h->bytes = at_least(CRISP_PAYLOAD * h->accepted + 1), 1;
     }
 }
@@ -1049,7 +1208,7 @@ static void damage_entry(size_t slot)
 {
     size_t at = SLOT * slot;
     if (below(2)) put(at + SOURCE_LEN, (uint8_t)(33 + below(223)));
-    else put(at + HIGHEST + below(56), some_byte());
+    else put(at + HIGHEST + below(BEHIND_COUNTERS - HIGHEST), some_byte());
 }
 
 /* whether the sender's next message is handed out; it is then the last that is kept */
@@ -1115,6 +1274,74 @@ static void random_change(void)
     if (!below(6)) damage_entry(slot), from = -1;
     call_change(at, &n);
     if (from >= 0) arrives_after(&old, number, slot, how, &n);
+}
+
+/* ---- random arrivals that are turned away */
+
+static void count_given(int which, uint64_t x)
+{
+    static const uint64_t values[GIVEN] = {CRISP_COUNTED - 1, CRISP_COUNTED, CRISP_COUNTED + 1ULL, UINT64_MAX};
+    for (int i = 0; i < GIVEN; i++) by_given[GIVEN * which + i] += x == values[i];
+}
+
+/* An entry is given two counters, by hand; of those within their limit a listing tells all. */
+static void put_counters(size_t slot, uint64_t replays, uint64_t forged)
+{
+    int hand = by_hand || replays > CRISP_COUNTED || forged > CRISP_COUNTED;
+    put_number(SLOT * slot + REPLAYS, replays), put_number(SLOT * slot + FORGED, forged);
+    by_hand = hand;
+}
+
+/* the same in its listing, which it takes as it stands anew; over the limit it does not, and is a fresh one */
+static void load_counters(size_t slot, uint64_t replays, uint64_t forged)
+{
+    static struct text t;
+    static struct lines l;
+    call_listing(slot, 2048);
+    if (answered.reply) return;
+    split(&printed[(prints - 1) % PRINTED], &l);
+    set_number(&l, AT_REPLAYS, replays), set_number(&l, AT_FORGED, forged), join(&l, &t);
+    if (stands_again(slot)) call_load(t.bytes, t.length);
+}
+
+/* a number, so that the check value is wrong */
+static void set_seqnum(struct message *m, uint64_t x)
+{
+    uint8_t *p = m->bytes + 3 + senders[m->from].keyid_len;
+    for (int i = 0; i < 6; i++) p[i] = (uint8_t)(x >> (40 - 8 * i));
+}
+
+/* What the entry has taken comes again: as it is (10), with a number below the floor (9), above all others (11) or of its window, with another length of
+ * its check value (8), and at times without room (1). */
+static void comes_again(const struct message *taken, size_t slot)
+{
+    struct message m = *taken;
+    const struct crisp_sender *s = &senders[m.from];
+    const uint8_t *entry = table + SLOT * slot;
+    struct history h = {.size = number_at(entry + SIZE), .start = number_at(entry + START)};
+    set_highest(&h, number_at(entry + HIGHEST));
+    switch (below(7)) {
+    case 0: case 1: if (h.floor) set_seqnum(&m, below(2) ? h.floor - 1 : below(h.floor)); break;
+    case 2: case 3: set_seqnum(&m, h.highest + 1 + below(3)); break;
+    case 4: if (h.highest > h.floor) set_seqnum(&m, h.floor + below(h.highest - h.floor)); break;
+    case 5: if (!below(2)) m.bytes[2] ^= OTHER_LENGTH; break;
+    }
+    call_receive(m.bytes, m.length, s->source, s->source_len, below(8) ? 2048 : 2047 - below(2));
+}
+
+static void random_counts(void)
+{
+    size_t slot = some_slot();
+    int from = taken_from(slot);
+    if (from < 0) return;
+    struct message taken = kept[(keeps - 1) % KEPT];
+    uint64_t replays = below(8) ? some_counter() : over_limit(), forged = below(8) ? some_counter() : over_limit();
+    count_given(0, replays), count_given(1, forged);
+    below(3) ? put_counters(slot, replays, forged) : load_counters(slot, replays, forged);
+    for (int n = 1 + (int)below(5); n > 0; n--)
+        if (below(8)) comes_again(&taken, slot);
+        else next_passes(from);
+    call_listing(slot, 2048);
 }
 
 /* ---- restarts */
@@ -1216,7 +1443,7 @@ static void restart(void)
 
 static void random_call(void)
 {
-    switch (below(26)) {
+    switch (below(28)) {
     case 0: case 1: case 2: random_install(); break;
     case 3: if (!below(3)) call_remove(below(18)); break;
     case 4: call_listing(below(18), some_room()); break;
@@ -1226,6 +1453,7 @@ static void random_call(void)
     case 10: case 11: random_load(); break;
     case 12: if (!below(2)) restart(); break;
     case 13: case 14: case 15: random_change(); break;
+    case 16: case 17: random_counts(); break;
     default: random_receive();
     }
 }
@@ -1389,7 +1617,8 @@ static void load_number(int line, uint64_t x)
     set_number(&l, line, x), load_lines(&l);
 }
 
-/* sender i's entry in that slot, behind others, with six messages of which some have left the window; answers the last of them in `swept` */
+/* sender i's entry in that slot, behind others, with six messages of which some have left the window, and each of them come twice; answers the last of
+ * them in `swept` */
 static int make_listed(int i, size_t slot, uint64_t size)
 {
     static const uint8_t payload[8] = "17.3 GJ";
@@ -1401,7 +1630,7 @@ static int make_listed(int i, size_t slot, uint64_t size)
     for (uint64_t n = 0; n < 6; n++) {
         senders[i].current += n % 3, ref_senders[i].current += n % 3;
         if (!next_message(i, payload, n)) return 0;
-        arrives(i, swept_length, senders[i].source_len, 2048);
+        for (int twice = 0; twice < 2; twice++) arrives(i, swept_length, senders[i].source_len, 2048);
     }
     call_listing(slot, 2048);
     if (answered.reply) return 0;
@@ -1511,12 +1740,13 @@ static void sweep_hex(void)
 /* whatever is wrong with the text, the entry and the record at once: the first of 21, 22, 23 is given */
 static void sweep_order(size_t slot)
 {
-    for (int damaged = 0; damaged < 2; damaged++)
+    for (int damaged = 0; damaged < 4; damaged++)
         for (int other = -1; other <= AT_START + 1; other++)
             for (int bad = -1; bad < LINES; bad++) {
                 struct lines l = listed_lines;
                 back();
-                if (damaged) set_number(&l, AT_ACCEPTED, 0);
+                if (damaged == 1) set_number(&l, AT_ACCEPTED, 0);
+                if (damaged > 1) set_number(&l, damaged == 2 ? AT_REPLAYS : AT_FORGED, CRISP_COUNTED + 1ULL);
                 if (other == AT_START + 1) put_number(SLOT * slot + ACCEPTED, 1);
                 else if (other == AT_SLOT) set_number(&l, AT_SLOT, 16 + slot);
                 else if (other >= 0 && in_hex(other)) strcat(l.of[other], "00");
@@ -1533,7 +1763,7 @@ static void load_history(const struct history *h)
     put_history(&l, h), load_lines(&l);
 }
 
-/* each mark, highest numbers and totals about their bounds */
+/* each mark, highest numbers, totals and counters about their bounds */
 static void sweep_record(void)
 {
     struct history own, h;
@@ -1548,6 +1778,8 @@ static void sweep_record(void)
         h = own, h.accepted = own.count + x - 12, h.bytes = 0, load_history(&h);
         h = own, h.accepted = most + x - 12, load_history(&h);
         h = own, h.bytes = CRISP_PAYLOAD * own.accepted + x - 12, load_history(&h);
+        h = own, h.replays = CRISP_COUNTED + x - 12, load_history(&h);
+        h = own, h.forged = CRISP_COUNTED + x - 12, load_history(&h);
     }
     memset(&h, 0, sizeof h), load_history(&h);
     h.marks[31] = 1, h.accepted = 1, load_history(&h);
@@ -1652,6 +1884,131 @@ static void sweep_texts(void)
         make_listed(loaded[k].sender, loaded[k].slot, loaded[k].size);
         sweep_bytes();
         if (k == 0) sweep_long_texts();
+    }
+}
+
+/* ---- the sweep of counters: an entry that has a history, with each two of these counters, and whatever an arrival, a listing, a load, a change, a removal and an
+ * install make of them */
+
+enum { COUNTERS = 20 };
+static uint64_t counters[COUNTERS] = {0, 1, 255, 256, 65535, 65536, (1 << 24) - 1, 1 << 24, CRISP_COUNTED - 1, CRISP_COUNTED, CRISP_COUNTED + 1ULL,
+                                      1ULL << 63, UINT64_MAX};         /* and random ones */
+
+/* arrivals at the entry, and what they meet where it is not damaged */
+enum { MEETINGS = 14 };
+static struct { struct message message; uint64_t reply; size_t room; } meetings[MEETINGS];
+static int met;
+
+/* what was swept last, to be changed so that it meets that */
+static struct message *meets(int from, uint64_t reply)
+{
+    struct message *m = &meetings[met].message;
+    m->from = from, m->length = swept_length;
+    memcpy(m->bytes, swept, swept_length);
+    meetings[met].reply = reply;
+    meetings[met++].room = reply == 1 ? 2047 : 2048;
+    return m;
+}
+
+/* the entry has taken what was swept last; of its next message too one byte is changed */
+static int make_meetings(int i)
+{
+    struct history h;
+    history_in(&listed_lines, &h);
+    met = 0;
+    meets(i, 10), meets(i, 1);
+    set_seqnum(meets(i, 9), 0), set_seqnum(meets(i, 9), h.floor - 1), set_seqnum(meets(i, 1), h.floor - 1);
+    set_seqnum(meets(i, 11), h.highest + 1), set_seqnum(meets(i, 1), h.highest + 1);
+    meets(i, 2)->length = 13, meets(i, 3)->bytes[1] = 1, meets(i, 4)->bytes[2] = 3, meets(i, 6)->bytes[0] ^= 0x80;
+    meets(i, 8)->bytes[2] ^= OTHER_LENGTH;
+    if (h.floor == 0 || !next_message(i, CRISP_NOTHING, 0)) return 0;
+    meets(i, 0), meets(i, 11)->bytes[swept_length - 1] ^= 1;
+    return met == MEETINGS;
+}
+
+/* each of them, at the entry with such counters; where it is damaged, by them or otherwise, 7 takes the place of all that come behind it */
+static void sweep_meetings(size_t slot, uint64_t replays, uint64_t forged, int damaged)
+{
+    for (int k = 0; k < MEETINGS; k++) {
+        const struct message *m = &meetings[k].message;
+        uint64_t reply = meetings[k].reply;
+        back(), put_counters(slot, replays, forged);
+        if (damaged) put_number(SLOT * slot + ACCEPTED, UINT64_MAX);
+        int behind = (damaged || replays > CRISP_COUNTED || forged > CRISP_COUNTED) && (reply == 0 || reply > 7);
+        call_receive(m->bytes, m->length, senders[m->from].source, senders[m->from].source_len, meetings[k].room);
+        if (answered.reply != (behind ? 7 : reply)) differs("a reply beside such counters");
+    }
+    back(), put_counters(slot, replays, forged);
+    if (damaged) put_number(SLOT * slot + ACCEPTED, UINT64_MAX);
+    call_listing(slot, 2048);
+}
+
+/* a text with such counters, at the entry as it stands anew, whose own are any */
+static void sweep_told(size_t slot, uint64_t replays, uint64_t forged, const uint8_t anew[CRISP_TABLE])
+{
+    static struct text t;
+    struct lines l = listed_lines;
+    set_number(&l, AT_REPLAYS, replays), set_number(&l, AT_FORGED, forged), join(&l, &t);
+    traced = 0;
+    memcpy(table, anew, CRISP_TABLE), memcpy(ref_table, anew, CRISP_TABLE);
+    if (below(2)) put_counters(slot, counters[below(COUNTERS)], counters[below(COUNTERS)]);
+    if (call_load(t.bytes, t.length) != (replays > CRISP_COUNTED || forged > CRISP_COUNTED ? 23 : 0)) differs("a load of such counters");
+    if (answered.reply) return;
+    call_listing(slot, 2048);
+    if (answered.length != t.length || memcmp(out, t.bytes, t.length)) differs("the listing after a load of such counters");
+}
+
+/* an entry that is changed, removed, or installed in a slot that is free for all its bytes, begins with counters 0 */
+static void sweep_cleared(int i, size_t slot, uint64_t replays, uint64_t forged)
+{
+    for (int how = 0; how < 3; how++) {
+        struct next n = entry_in(saved + SLOT * slot);
+        back(), put_counters(slot, replays, forged);
+        if (how == 0) call_change(slot, &n);
+        if (how == 1) call_remove(slot);
+        if (how == 2) put(SLOT * slot, 0), install(i);
+        if (answered.reply || number_at(table + SLOT * slot + REPLAYS) || number_at(table + SLOT * slot + FORGED)) differs("a counter of a fresh entry");
+    }
+}
+
+/* one arrival after another: each counts, and at the limit none does */
+static void sweep_climb(size_t slot, uint64_t from, uint64_t times)
+{
+    uint64_t counted[2] = {from, from};
+    back(), put_counters(slot, from, from);
+    for (uint64_t n = 0; n < times; n++)
+        for (int k = 0; k < MEETINGS; k++) {
+            const struct message *m = &meetings[k].message;
+            uint64_t reply = meetings[k].reply;
+            if (reply < 9) continue;
+            traced = 0;
+            call_receive(m->bytes, m->length, senders[m->from].source, senders[m->from].source_len, 2048);
+            counted[reply == 11] += counted[reply == 11] < CRISP_COUNTED;
+            if (answered.reply != reply || number_at(table + SLOT * slot + REPLAYS) != counted[0] || number_at(table + SLOT * slot + FORGED) != counted[1])
+                differs("a counter, one arrival after another,");
+        }
+}
+
+static void sweep_counters(void)
+{
+    static uint8_t anew[CRISP_TABLE];
+    for (int k = 13; k < COUNTERS; k++) counters[k] = rnd() >> below(64);
+    for (int k = 0; k < LOADED; k++) {
+        int i = loaded[k].sender;
+        size_t slot = loaded[k].slot;
+        make_swept();
+        if (!make_listed(i, slot, loaded[k].size) || !make_meetings(i)) differs("an entry that is to count");
+        memcpy(anew, saved, CRISP_TABLE);
+        load_text(&listed);
+        memcpy(saved, table, CRISP_TABLE);
+        for (int n = 0; n < COUNTERS * COUNTERS; n++) {
+            uint64_t replays = counters[n / COUNTERS], forged = counters[n % COUNTERS];
+            sweep_meetings(slot, replays, forged, 0);
+            sweep_told(slot, replays, forged, anew);
+            sweep_cleared(i, slot, replays, forged);
+        }
+        for (int n = 0; n < COUNTERS; n++) sweep_meetings(slot, counters[n], counters[COUNTERS - 1 - n], 1);
+        sweep_climb(slot, 0, 100), sweep_climb(slot, CRISP_COUNTED - 20, 10);
     }
 }
 
@@ -1901,9 +2258,10 @@ static void sweep_changes(void)
     }
 }
 
-/* what the sweeps have met is not counted of changes: the random sequences must meet it too */
+/* what the sweeps have met is not counted of changes and counters: the random sequences must meet it too */
 static void count_from_here(void)
 {
+    memset(by_turned, 0, sizeof by_turned), memset(by_given, 0, sizeof by_given), memset(by_told, 0, sizeof by_told);
     memset(by_change, 0, sizeof by_change), memset(by_no_slot, 0, sizeof by_no_slot), memset(by_unsound, 0, sizeof by_unsound);
     memset(by_twin, 0, sizeof by_twin), memset(by_after, 0, sizeof by_after);
 }
@@ -1911,6 +2269,7 @@ static void count_from_here(void)
 static void sweep_all(void)
 {
     static const int which[] = {0, 1, 2, 3, 4, 5, 6, 7, 8, 9, 13, 16, 17, 21};
+    sweep_counters();
     sweep_changes();
     sweep_loads();
     make_swept();
@@ -1957,7 +2316,9 @@ int main(int argc, char **argv)
              + print_counts("by 21", form_names, by_form, FORMS) + print_counts("by 22", entry_names, by_entry, ENTRY)
              + print_counts("by 23", record_names, by_record, RECORD) + print_counts("change", change_names, by_change, CHANGES)
              + print_counts("by 16", no_slot_names, by_no_slot, NO_SLOTS) + print_counts("by 13", unsound_names, by_unsound, UNSOUND)
-             + print_counts("by 14", twin_names, by_twin, TWINS) + print_counts("after", after_names, by_after, AFTERS);
+             + print_counts("by 14", twin_names, by_twin, TWINS) + print_counts("after", after_names, by_after, AFTERS)
+             + print_counts("turned", turned_names, by_turned, TURNED) + print_counts("given", given_names, by_given, 2 * GIVEN)
+             + print_counts("told", told_names, by_told, 2 * TOLD);
     printf("compare: %llu calls in sweeps and %llu in %llu random sequences, no difference\n", (unsigned long long)swept,
            (unsigned long long)(compared - swept), (unsigned long long)sequences);
     return missing ? 1 : 0;
