@@ -1,6 +1,7 @@
 /* captures.c: captures read by the library and by the second implementation (reference.c): the order of a file, the record at a place, and a report on
  * a table, with every byte of the table and of the text compared. Files are random, cut at every length, and changed in every byte of their headers.
- * Every file is read a second time, which must hand out nothing. At the first difference it prints the file and stops.
+ * Counters grow by the lines that have 9, 10 and 11. Every file is read a second time, which must hand out nothing, and change nothing but counters. At
+ * the first difference it prints the file and stops.
  *
  *   captures [SEQUENCES [SEED]]        1000 sequences and seed 1 where nothing is said
  *   captures write ORDER               writes a capture to standard output, for the tools of others; ORDER is 1 or 2
@@ -13,6 +14,9 @@
 #include <string.h>
 
 enum { ENTRIES = 6, KEPT = 32, LONGEST = 70000, ROOM = CAPTURE_TEXT + 64 };
+
+/* of a slot: its bytes, and where its window begins, its two counters stand, and nothing is behind them */
+enum { SLOT = CRISP_TABLE / CRISP_SLOTS, SIZE = 198, REPLAYS = 270, FORGED = 278, BEHIND_COUNTERS = 286 };
 
 /* ---- a file */
 
@@ -78,9 +82,45 @@ static void same_records(size_t n)
     for (int i = 0; i < 4; i++) same_record(n, below(19), below(n + 20));
 }
 
+/* ---- counters */
+
+static uint8_t table_before[CRISP_TABLE];
+static uint64_t counted[2], at_limit;           /* lines with 9 or 10, and with 11; and reports that left a counter at its limit */
+
+static uint64_t counter(const uint8_t *of, size_t slot, size_t place)
+{
+    uint64_t x = 0;
+    for (size_t i = 0; i < 8; i++) x = x << 8 | of[SLOT * slot + place + i];
+    return x;
+}
+
+/* all counters together have grown by so many replays and so many that were forged, or one of them has come to its limit */
+static void counts(uint64_t replays, uint64_t forged)
+{
+    uint64_t grown[2] = {0, 0};
+    int limit = 0;
+    for (size_t slot = 0; slot < CRISP_SLOTS; slot++)
+        for (int which = 0; which < 2; which++) {
+            size_t place = which ? FORGED : REPLAYS;
+            grown[which] += counter(table, slot, place) - counter(table_before, slot, place);
+            limit |= counter(table, slot, place) == CRISP_COUNTED;
+        }
+    if (limit ? grown[0] > replays || grown[1] > forged : grown[0] != replays || grown[1] != forged) differs("the number of arrivals that were counted");
+    counted[0] += replays, counted[1] += forged, at_limit += limit && replays + forged > 0;
+}
+
+/* whether all else is as it was */
+static int same_but_counters(void)
+{
+    for (size_t at = 0; at < CRISP_TABLE; at++)
+        if (table[at] != table_before[at] && (at % SLOT < REPLAYS || at % SLOT >= BEHIND_COUNTERS)) return 0;
+    return 1;
+}
+
 /* a report of the first n bytes; answers how many payloads it handed out */
 static size_t same_report(size_t n, size_t room)
 {
+    memcpy(table_before, table, CRISP_TABLE);
     memset(out, (int)(files & 255), ROOM);
     memcpy(ref_out, out, ROOM);
     struct capture_summary a = capture_report(table, file, n, out, room), b = ref_report(ref_table, file, n, ref_out, room);
@@ -90,15 +130,17 @@ static size_t same_report(size_t n, size_t room)
     files++;
     replies[a.reply]++;
     size_t handed = 0, at = 0;
+    uint64_t replays_told = 0, forged_told = 0;
     for (size_t lines = 0; lines < a.records; lines++) {
         const char *answer = strstr((const char *)out + at, "answer=") + 7;
         unsigned long reply = strtoul(answer, NULL, 10);
         if (reply > 20) differs("a reply that is not listed");
         replies[reply]++;
-        handed += reply == 0;
+        handed += reply == 0, replays_told += reply == 9 || reply == 10, forged_told += reply == 11;
         at = (size_t)((const uint8_t *)strchr(answer, '\n') + 1 - out);
     }
     if (at != a.length) differs("the number of lines");
+    counts(replays_told, forged_told);
     return handed;
 }
 
@@ -108,6 +150,7 @@ static void both_ways(size_t n)
     same_records(n);
     same_report(n, CAPTURE_TEXT);
     if (same_report(n, CAPTURE_TEXT + below(3)) != 0) differs("a second reading, which handed something out:");
+    if (!same_but_counters()) differs("a second reading, which changed more than counters:");
 }
 
 /* ---- senders, their entries, and what they sent */
@@ -138,7 +181,11 @@ static void make_table(void)
         uint64_t start = below(4) ? 0 : s->current + below(8);                  /* some the other edition, and some a start */
         (void)crisp_install(table, s->flag, s->keyid, s->keyid_len, s->source, s->source_len, suite, edition, s->key, 32, 1 + below(8), start).reply;
     }
-    if (!below(4)) table[288 * below(ENTRIES) + 198 + below(72)] ^= 0x41;       /* some are damaged */
+    for (size_t i = 0; i < ENTRIES; i++) {                                      /* some counters are at their limit, or near it, */
+        uint8_t *low_half = table + SLOT * i + (below(2) ? REPLAYS : FORGED) + 4;
+        if (!below(4)) memset(low_half, 0xff, 4), low_half[3] -= (uint8_t)below(4);
+    }
+    if (!below(4)) table[SLOT * below(ENTRIES) + SIZE + below(BEHIND_COUNTERS - SIZE)] ^= 0x41; /* and some records damaged */
     memcpy(ref_table, table, CRISP_TABLE);
 }
 
@@ -284,7 +331,9 @@ int main(int argc, char **argv)
     printf("replies");
     for (int r = 0; r <= 20; r++)
         if (replies[r]) printf("  %d: %llu", r, (unsigned long long)replies[r]);
-    printf("\n");
+    printf("\ncounted  replays: %llu  forged: %llu  at the limit: %llu\n", (unsigned long long)counted[0], (unsigned long long)counted[1],
+           (unsigned long long)at_limit);
+    missing += !counted[0] + !counted[1] + !at_limit;
     for (int r = 0; r <= 20; r++)
         if (!replies[r] && (r <= 11 || r >= 17)) printf("reply %d was never given\n", r), missing++;
     printf("captures: %llu reports in sweeps and %llu in %llu random sequences, %llu places, no difference\n", (unsigned long long)swept,
