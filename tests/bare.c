@@ -1,5 +1,5 @@
-/* bare.c: the library without a C library: -nostdlib, with memcpy and memset of its own. One message is sent, received, repeated and listed, and is
- * refused once its entry has another key; the listing goes to standard output by a system call, for want of a wire. */
+/* bare.c: the library without a C library: -nostdlib, with memcpy and memset of its own. One message is sent, received, repeated, which is counted, and
+ * listed, and is refused once its entry has another key; the listing goes to standard output by a system call, for want of a wire. */
 #include "crisp.h"
 
 void *memcpy(void *to, const void *from, size_t n)

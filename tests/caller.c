@@ -34,10 +34,19 @@ static int longest(uint8_t suite)
     return a.reply != CRISP_DONE || a.length != CRISP_OUT || 3 + sender.keyid_len + 6 + length + CRISP_ICV(suite) != a.length;
 }
 
+/* the reply to the message, which the entry has taken before */
+static uint64_t again(void)
+{
+    struct crisp_answer a;
+    a = crisp_receive(table, message, 14, CRISP_NOTHING, 0, out, sizeof out);
+    return a.reply;
+}
+
 /* the listing in `out` is loaded into the entry, once it stands anew */
 static int restores(size_t slot, size_t length)
 {
     struct crisp_answer a;
+    size_t accepted = length - sizeof "1\nbytes=0\nreplays=0\nforged=0\n" + 1;
     a = crisp_load(table, CRISP_NOTHING, 0);
     if (a.reply != CRISP_BAD_TEXT) return 1;
     a = crisp_load(table, out, length);
@@ -47,14 +56,25 @@ static int restores(size_t slot, size_t length)
     a = crisp_install(table, 0, sender.keyid, sender.keyid_len, sender.source, sender.source_len, sender.suite, sender.edition, sender.key, CRISP_KEY,
                       CRISP_SIZE, 0);
     if (a.reply != CRISP_DONE || a.slot != slot) return 1;
-    out[length - 10] = '0';                     /* nothing accepted, with a number that is marked */
+    out[accepted] = '0';                        /* nothing accepted, with a number that is marked */
     a = crisp_load(table, out, length);
     if (a.reply != CRISP_WOULD_BE_DAMAGED) return 1;
-    out[length - 10] = '1';
+    out[accepted] = '1';
     a = crisp_load(table, out, length);
     if (a.reply != CRISP_DONE || a.slot != slot || a.length != 0 || a.seqnum != 0) return 1;
-    a = crisp_receive(table, message, 14, CRISP_NOTHING, 0, out, sizeof out);
-    return a.reply != CRISP_REPEATED;
+    return again() != CRISP_REPEATED;
+}
+
+/* the listing of an entry that was sent the message twice more and, with another number, once: it ends with the two counters */
+static int counts(size_t slot)
+{
+    struct crisp_answer a;
+    if (again() != CRISP_REPEATED) return 1;
+    message[9] ^= 2;
+    if (again() != CRISP_WRONG_ICV) return 1;
+    message[9] ^= 2;
+    a = crisp_listing(table, slot, out, sizeof out);
+    return a.reply != CRISP_DONE || out[a.length - 11] != '2' || out[a.length - 2] != '1';
 }
 
 /* the entry is changed to the sender's key data with that key, size and start */
@@ -64,14 +84,6 @@ static uint64_t changes_to(size_t slot, const uint8_t *key, uint64_t size, uint6
     a = crisp_change(table, slot, 0, sender.keyid, sender.keyid_len, sender.source, sender.source_len, sender.suite, sender.edition, key, CRISP_KEY, size,
                      start);
     return a.slot != (a.reply == CRISP_DONE ? slot : 0) || a.length != 0 || a.seqnum != 0 ? CRISP_END : a.reply;
-}
-
-/* the reply to the message, which the entry has taken before */
-static uint64_t again(void)
-{
-    struct crisp_answer a;
-    a = crisp_receive(table, message, 14, CRISP_NOTHING, 0, out, sizeof out);
-    return a.reply;
 }
 
 /* a refused change leaves the entry as it was; a start, or another key, keeps out what it has taken; the same key from 0 on does not */
@@ -115,6 +127,7 @@ int main(void)
     a = crisp_listing(table, a.slot, out, sizeof out);
     if (a.reply != CRISP_DONE) return 4;
     if (restores(a.slot, a.length)) return 12;
+    if (counts(a.slot)) return 14;
     if (changes(a.slot)) return 13;
     if (crisp_capture_order(message, sizeof message) != CRISP_BAD_CAPTURE) return 6;
     r = crisp_capture_record(message, sizeof message, CRISP_BAD_CAPTURE, CRISP_CAPTURE_HEADER);

@@ -1,5 +1,5 @@
-/* editions.c: the forty old controllers, end to end. Each sends by edition 1: a gateway that has its key data with edition 2 refuses every message with 11
- * and stays as it was, one that has it with edition 1 hands out the payload. Forty new controllers the other way round. Then every edition that is not
+/* editions.c: the forty old controllers, end to end. Each sends by edition 1: a gateway that has its key data with edition 2 refuses every message with 11,
+ * counts it as forged and stays else as it was, one that has it with edition 1 hands out the payload. Forty new controllers the other way round. Then every edition that is not
  * sound with a suite, for each of the four, at a sender, at an install and in a slot; the numbers for which both editions make the same message; and
  * those that have one gamma in edition 1. Prints one line, or what does not hold. */
 #include "crisp.h"
@@ -9,7 +9,10 @@
 #include <stdlib.h>
 #include <string.h>
 
-enum { CONTROLLERS = 40, TABLES = (CONTROLLERS + CRISP_SLOTS - 1) / CRISP_SLOTS, EDITION = 3, PAYLOAD = 40 };
+enum { CONTROLLERS = 40, TABLES = (CONTROLLERS + CRISP_SLOTS - 1) / CRISP_SLOTS, PAYLOAD = 40 };
+
+/* of a slot: its bytes, the place of the edition, and the last byte of what was forged */
+enum { SLOT = CRISP_TABLE / CRISP_SLOTS, EDITION = 3, FORGED = 285 };
 
 static struct crisp_sender controllers[CONTROLLERS];
 static uint8_t gateways[3][TABLES][CRISP_TABLE];        /* by edition: each has all controllers, one with edition 1 and one with 2 */
@@ -70,7 +73,8 @@ static void exchange(int i, uint64_t number)
     fill(payload, PAYLOAD);
     must(sends(s, number) == CRISP_DONE, "each controller sends");
     memcpy(before, other, CRISP_TABLE);
-    must(receives(other, s) == CRISP_WRONG_ICV && !memcmp(before, other, CRISP_TABLE), "an entry of the other edition refuses it and stays as it was");
+    before[SLOT * (i % CRISP_SLOTS) + FORGED]++;
+    must(receives(other, s) == CRISP_WRONG_ICV && !memcmp(before, other, CRISP_TABLE), "an entry of the other edition refuses it and counts it as forged");
     must(opens(own, s), "an entry of its own edition opens it");
     exchanged++;
 }
