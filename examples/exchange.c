@@ -1,7 +1,8 @@
-/* A sender and a gateway in one program: three messages are sent, the second arrives first and once more later, and the entry is listed. The gateway
- * restarts without its table and goes on by that listing: what had arrived does not pass again, the next message does. Then a second gateway takes the
- * first one's place: the old messages do not pass there, the next one does. The meter gets a new key, and later a wider window for the same key, each by
- * one change of its entry. And a controller of the turbine hall sends with a longer check value. Nothing is kept here; examples/kept.c shows how.
+/* A sender and a gateway in one program: three messages are sent, the second arrives first and once more later, a forged one comes behind them, and the
+ * entry is listed, with both that were turned away counted. The gateway restarts without its table and goes on by that listing: what had arrived does not
+ * pass again, the next message does. Then a second gateway takes the first one's place: the old messages do not pass there, the next one does. The meter
+ * gets a new key, and later a wider window for the same key, each by one change of its entry. And a controller of the turbine hall sends with a longer
+ * check value. Nothing is kept here; examples/kept.c shows how.
  * Build: cc exchange.c $(pkg-config --cflags --libs crisp) */
 #include "crisp.h"
 #include <stdio.h>
@@ -61,11 +62,13 @@ static int lists(const uint8_t *gateway, size_t slot)
     return (int)a.reply;
 }
 
-/* The start of a key that goes on elsewhere, or in a fresh entry: behind all that the listed entry has counted, and not below its own start. */
+/* A number of the last listing, by the name of its line. */
+static uint64_t listed(const char *name, int base) { return strtoull(strstr((const char *)listing, name) + strlen(name), NULL, base); }
+
+/* The start of a key that goes on elsewhere, or in a fresh entry: behind all that the listed entry has accepted, and not below its own start. */
 static uint64_t start_behind(void)
 {
-    uint64_t start = strtoull(strstr((const char *)listing, "\nstart=") + 7, NULL, 10);
-    uint64_t highest = strtoull(strstr((const char *)listing, "\nhighest=") + 9, NULL, 16);
+    uint64_t start = listed("\nstart=", 10), highest = listed("\nhighest=", 16);
     return highest + 1 > start ? highest + 1 : start;
 }
 
@@ -97,7 +100,7 @@ static int changes(uint8_t *gateway, size_t slot, const uint8_t *to, size_t leng
 }
 
 /* A new key. Half of it is refused, and the meter is still heard, for nothing was removed. A new key has no past, so start is 0: what was made with the
- * old key fails its check. The listing before the change has the totals of the old history. */
+ * old key fails its check, and counts as forged. The listing before the change has the totals and counters of the old history. */
 static int gets_new_key(uint8_t *gateway, size_t slot, struct crisp_sender *sender)
 {
     static struct packet old, first;
@@ -159,6 +162,10 @@ int main(void)
     forged.bytes[20] ^= 1;
     forged.bytes[9] += 1;               /* another number, and a check value that cannot be right */
     if (arrives(table, &forged) != CRISP_WRONG_ICV || lists(table, slot) != CRISP_DONE) return 1;
+
+    /* an engineer reads off it that one message came a second time and that one was not made with the key. Neither has changed anything but its counter;
+     * a counter that grows from one listing to the next is worth a look */
+    if (listed("\nreplays=", 10) != 1 || listed("\nforged=", 10) != 1) return 1;
 
     /* the listing is from after the last arrival; by an older one, or by none, messages would pass once more */
     if (restarts(table)) return 1;

@@ -6,7 +6,8 @@
  *   kept list FOLDER            prints the gateway's entry
  *
  * Two rules: the sender saves its record before the message leaves, so no number is used twice; the gateway saves its table and the line that it is
- * about to book in one file, and books that line again when it comes back, so each reading is booked once. The files hold keys: only their owner can
+ * about to book in one file, and books that line again when it comes back, so each reading is booked once. What was only counted, as repeated or forged,
+ * is saved with the next reading or at the end, and a kill before that loses the count, nothing else. The files hold keys: only their owner can
  * read them. A folder that was kept under layout 1 is taken over. Build: cc kept.c $(pkg-config --cflags --libs crisp) */
 #define _POSIX_C_SOURCE 200809L
 #include "crisp.h"
@@ -37,6 +38,7 @@ static struct {
 } gateway;
 
 static int folder;
+static int counted;                     /* whether a counter of the table has moved since it was saved */
 static const uint8_t keyid[] = {0x05}, source[] = {'m', 'e', 't', 'e', 'r', ' ', '1', '7'};
 
 static void stop(const char *what, const char *why)
@@ -173,12 +175,14 @@ static void receive_one(const uint8_t *message, size_t n)
     struct crisp_answer a = crisp_receive(gateway.table, message, n, source, sizeof source, payload, sizeof payload);
     crisp_forget();
     printf("reply %llu\n", (unsigned long long)a.reply);
-    if (a.reply != CRISP_DONE) return;          /* and the table is as it was */
+    if (a.reply == CRISP_BELOW_FLOOR || a.reply == CRISP_REPEATED || a.reply == CRISP_WRONG_ICV) counted = 1;
+    if (a.reply != CRISP_DONE) return;          /* and of the table at most a counter is new */
     gateway.booked += gateway.length;
     int front = snprintf(gateway.line, sizeof gateway.line, "slot %zu, number %llu: ", a.slot, (unsigned long long)a.seqnum);
     to_hex(gateway.line + front, payload, a.length);
     gateway.length = strlen(gateway.line);
     save("table", &gateway, sizeof gateway);
+    counted = 0;
     book();
 }
 
@@ -193,6 +197,7 @@ static void receive_all(void)
         size_t n = from_hex(line);
         receive_one((const uint8_t *)line, n);
     }
+    if (counted) save("table", &gateway, sizeof gateway);
     free(line);
 }
 

@@ -1,5 +1,6 @@
 /* killed.c: examples/kept.c, killed at each of its calls that change a file, in four ways, started again and gone on with. Afterwards no number was
- * used by two messages, and each message that left whole was booked once and counted. Then several senders at once, on one record.
+ * used by two messages, each message that left whole was booked once and counted, and what came again while nothing was killed is among the replays. Then
+ * several senders at once, on one record.
  *
  *   killed FOLDER        an empty folder; built with -DKEPT='"the example"' */
 #define _GNU_SOURCE
@@ -228,13 +229,26 @@ static int twice(const unsigned long long *numbers, int n)
     return 0;
 }
 
-static int accepted(void)
+/* the entry's total and its replays, as they are listed */
+static int listed(int *replays)
 {
     char line[128];
     int n = -1;
+    *replays = -1;
     if (ended(start("list", "part", BEFORE, 0))) return -1;
     FILE *f = fopen(in_place("part"), "r");
-    while (f && fgets(line, sizeof line, f)) sscanf(line, "accepted=%d", &n);
+    while (f && fgets(line, sizeof line, f)) sscanf(line, "accepted=%d", &n), sscanf(line, "replays=%d", replays);
+    if (f) fclose(f);
+    return n;
+}
+
+/* how many messages the last run has refused as repeated */
+static int repeated(void)
+{
+    char line[128];
+    int n = 0;
+    FILE *f = fopen(in_place("part"), "r");
+    while (f && fgets(line, sizeof line, f)) n += strcmp(line, "reply 10\n") == 0;
     if (f) fclose(f);
     return n;
 }
@@ -242,10 +256,11 @@ static int accepted(void)
 static void hold(int step, enum way how, int at)
 {
     unsigned long long sent[MOST], booked[MOST];
-    int whole, n = sent_numbers(sent, &whole), lines = booked_numbers(booked);
+    int whole, n = sent_numbers(sent, &whole), lines = booked_numbers(booked), again = repeated(), replays, total = listed(&replays);
     if (twice(sent, n)) bad("a number was used twice", step, how, at);
     if (twice(booked, lines)) bad("a reading was booked twice", step, how, at);
-    if (lines != whole || accepted() != whole) bad("not every message that left whole was booked and counted", step, how, at);
+    if (lines != whole || total != whole) bad("not every message that left whole was booked and counted", step, how, at);
+    if (again == 0 || replays < again) bad("what came again is not among the replays", step, how, at);
 }
 
 /* ---- all of it */
@@ -302,6 +317,6 @@ int main(int argc, char **argv)
             for (int at = 1; sequence(step, (enum way)how, at); at++) kills++;
     several();
     clean();
-    printf("%d kills in four ways, and four senders at once: no number was used twice, each reading was booked once\n", kills);
+    printf("%d kills in four ways, and four senders at once: no number was used twice, each reading was booked once, what came again was counted\n", kills);
     return kills < 100;
 }
