@@ -37,8 +37,8 @@ static const struct kind {
 } a_1 = {1, 2, 0x0b76e6736001}, a_2 = {2, 2, 0x0b76e66ea001}, old_a_1 = {1, 1, 0x0b76e6736001}, long_a_1 = {241, 2, 0x0b76e6736001},
   long_a_2 = {242, 2, 0x0b76e66ea001};
 
-/* of a slot: its bytes, and the place and bytes of what arrivals and loads move, from highest to the totals */
-enum { SLOT = CRISP_TABLE / CRISP_SLOTS, MOVED = 214, MOVED_BYTES = 56 };
+/* of a slot: its bytes, and the place and bytes of what arrivals and loads move, from highest to the counters */
+enum { SLOT = CRISP_TABLE / CRISP_SLOTS, MOVED = 214, MOVED_BYTES = 72 };
 
 static uint8_t table[CRISP_TABLE], saved[CRISP_TABLE], data[2048], out[2048], message[2048];
 static volatile uint64_t sink;
@@ -101,7 +101,7 @@ static int changes(uint64_t n)
     return 0;
 }
 
-/* the window is put back before each arrival */
+/* window and counters are put back before each arrival; what is to be refused as repeated has arrived before */
 static int arrives(const struct kind *k, size_t length, int slot, uint64_t start, int damage, uint64_t n, uint64_t reply)
 {
     if (!stands(k, slot, start)) return 1;
@@ -109,6 +109,7 @@ static int arrives(const struct kind *k, size_t length, int slot, uint64_t start
     struct crisp_answer a = crisp_protect(&s, data, length, message, sizeof message);
     if (a.reply) return 1;
     if (damage >= 0) message[damage] ^= 1;
+    if (reply == CRISP_REPEATED && crisp_receive(table, message, a.length, source, 12, out, sizeof out).reply) return 1;
     memcpy(saved, table, sizeof table);
     uint8_t *moved = table + SLOT * slot + MOVED, *before = saved + SLOT * slot + MOVED;
     while (n--) {
@@ -315,7 +316,8 @@ static int receive_slot_15(uint64_t n) { return receives(&a_1, 37, 15, -1, n, 0)
 static int refuse_version(uint64_t n) { return receives(&a_1, 37, 0, 1, n, 3); }
 static int refuse_no_entry(uint64_t n) { return receives(&a_1, 37, 0, 3, n, 6); }
 static int refuse_no_entry_16(uint64_t n) { return receives(&a_1, 37, 15, 3, n, 6); }
-static int refuse_icv(uint64_t n) { return receives(&a_1, 37, 0, 50, n, 11); }
+static int refuse_repeated(uint64_t n) { return receives(&a_1, 37, 0, -1, n, 10); }
+static int refuse_forged(uint64_t n) { return receives(&a_1, 37, 0, 50, n, 11); }
 static int receive_at_start(uint64_t n) { return arrives(&a_1, 37, 0, a_1.number, -1, n, 0); }
 static int refuse_below_start(uint64_t n) { return arrives(&a_1, 37, 0, a_1.number + 1, -1, n, 9); }
 static int protect_a_1(uint64_t n) { return protects(&a_1, 37, n); }
@@ -339,8 +341,9 @@ static const struct {
     {"block", block}, {"check-2048", check_2048}, {"counter-2048", counter_2048}, {"keys-suite-1", keys_suite_1}, {"keys-suite-2", keys_suite_2},
     {"receive-A.1", receive_a_1}, {"receive-A.2", receive_a_2}, {"receive-2048-suite-1", receive_2048_1}, {"receive-2048-suite-2", receive_2048_2},
     {"receive-A.1-slot-15", receive_slot_15}, {"refuse-version", refuse_version}, {"refuse-no-entry", refuse_no_entry},
-    {"refuse-no-entry-16-slots", refuse_no_entry_16}, {"refuse-icv", refuse_icv}, {"install", installs}, {"change-16-slots", changes},
-    {"receive-A.1-at-start", receive_at_start}, {"refuse-below-start", refuse_below_start}, {"protect-A.1", protect_a_1}, {"protect-A.2", protect_a_2},
+    {"refuse-no-entry-16-slots", refuse_no_entry_16}, {"install", installs}, {"change-16-slots", changes}, {"receive-A.1-at-start", receive_at_start},
+    {"refuse-below-start", refuse_below_start}, {"refuse-repeated", refuse_repeated}, {"refuse-forged", refuse_forged},
+    {"protect-A.1", protect_a_1}, {"protect-A.2", protect_a_2},
     {"protect-2048-suite-1", protect_2048_1}, {"protect-2048-suite-2", protect_2048_2}, {"forget", forget},
     {"keys-suite-1-edition-1", keys_edition_1}, {"receive-A.1-edition-1", receive_old}, {"protect-A.1-edition-1", protect_old},
     {"receive-A.1-suite-241", receive_long_1}, {"receive-A.2-suite-242", receive_long_2}, {"receive-2048-suite-241", receive_2048_long},

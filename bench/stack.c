@@ -1,5 +1,6 @@
-/* stack.c: the deepest stack of each function of the library, in bytes. Receive and protect must be within 1,024, all others within CRISP_STACK, a report
- * of a capture, which has a payload's buffer in it, within 4,096. Then counter mode by itself, and the cipher's own told apart from it.
+/* stack.c: the deepest stack of each function of the library, in bytes. Receive, of a message that it takes and of one that it counts as forged, and protect
+ * must be within 1,024, all others within CRISP_STACK, a report of a capture, which has a payload's buffer in it, within 4,096. Then counter mode by
+ * itself, and the cipher's own told apart from it.
  *
  * A call runs on a stack of its own. Of the functions two depths are taken and the larger is printed: down to the lowest byte written (the stack is filled
  * with a value before, and with another value in a second run), and down to the lowest stack pointer (the call is single-stepped). The lines here that
@@ -64,6 +65,15 @@ static void receive(void)
 {
     memcpy(table, before, sizeof table);
     answer = crisp_receive(table, message, sizeof message, source, 32, out, sizeof out);
+}
+/* with its last byte changed */
+static void refuse(void)
+{
+    memcpy(table, before, sizeof table);
+    message[sizeof message - 1] ^= 1;
+    answer = crisp_receive(table, message, sizeof message, source, 32, out, sizeof out);
+    message[sizeof message - 1] ^= 1;
+    answer.reply -= CRISP_WRONG_ICV;
 }
 static void protect(void)
 {
@@ -219,7 +229,7 @@ static void gauge_calls(uint8_t of_suite, uint8_t of_edition, const char *what)
     static const struct { const char *name; void (*call)(void); size_t limit; } calls[] = {
         {"install", install, CRISP_STACK - PUSHED}, {"protect", protect, 1024}, {"receive", receive, 1024}, {"listing", listing, CRISP_STACK - PUSHED},
         {"load", load, CRISP_STACK - PUSHED}, {"remove", removal, CRISP_STACK - PUSHED}, {"change", change, CRISP_STACK - PUSHED},
-        {"report", report, 4096 - PUSHED},
+        {"refuse", refuse, 1024}, {"report", report, 4096 - PUSHED},
     };
     suite = of_suite, edition = of_edition, longest = CRISP_PAYLOAD_OF(sizeof keyid, suite);
     sender = (struct crisp_sender){.flag = 1, .keyid = {0xff}, .keyid_len = 128, .source_len = 32, .suite = suite, .edition = edition};
