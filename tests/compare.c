@@ -1022,7 +1022,7 @@ static void load_changed(const struct lines *as_it_was, size_t slot)
     history_in(l, &h);
     enum form form = (enum form)below(FORMS);
     enum entry entry = (enum entry)below(ENTRY);
-    enum record record = (enum record)below(RECORD);
+    enum record record = below(8) ? (enum record)below(RECORD) : UNDER_START;           /* few histories have a place for a mark there */
     int which = 1 << below(3);
     if (!below(4)) which = (int)below(8);
     if (which & 4 && record == KEY_DATA) damage_key_data(l, slot);
