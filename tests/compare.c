@@ -133,8 +133,9 @@ static const char *const after_names[AFTERS] = {"handed out again", "below the n
                                                 "next, new key", "next, refused change", "next, at a twin"};
 static uint64_t by_after[AFTERS];
 
-/* arrivals that were turned away: counted by 9, by 10 and by 11; those of them that took a counter to its limit, and those that found it there; with 1,
- * and with 8, that had been counted with room, or by the entry's suite; refused with 7 for a counter alone, and entries not listed for one */
+/* arrivals that were turned away and counted, by 9, 10 and 11; those of them that took a counter to its limit, and those that found it there. Arrivals that
+ * count nowhere: with 1 and 8, where room or the entry's suite would have had them counted, and with 7 for a counter alone; and entries that are not
+ * listed for one */
 enum turned { BY_9, BY_10, BY_11, LAST_REPLAY, LAST_FORGED, REPLAYS_STAY, FORGED_STAY, NO_ROOM, BY_SUITE, BAD_REPLAYS, BAD_FORGED, NOT_LISTED, TURNED };
 static const char *const turned_names[TURNED] = {"by 9", "by 10", "by 11", "replays to the limit", "forged to it", "replays at it", "forged at it",
                                                  "without room", "of another suite", "damaged replays", "damaged forged", "not listed"};
@@ -1617,8 +1618,16 @@ static void load_number(int line, uint64_t x)
     set_number(&l, line, x), load_lines(&l);
 }
 
-/* sender i's entry in that slot, behind others, with six messages of which some have left the window, and each of them come twice; answers the last of
- * them in `swept` */
+/* what was swept last, with its last byte changed */
+static void arrives_forged(int i)
+{
+    swept[swept_length - 1] ^= 1;
+    arrives(i, swept_length, senders[i].source_len, 2048);
+    swept[swept_length - 1] ^= 1;
+}
+
+/* sender i's entry in that slot, behind others, with six messages of which some have left the window. Each came twice, and before three of them a forged
+ * one. Answers the last of them in `swept`. */
 static int make_listed(int i, size_t slot, uint64_t size)
 {
     static const uint8_t payload[8] = "17.3 GJ";
@@ -1630,6 +1639,7 @@ static int make_listed(int i, size_t slot, uint64_t size)
     for (uint64_t n = 0; n < 6; n++) {
         senders[i].current += n % 3, ref_senders[i].current += n % 3;
         if (!next_message(i, payload, n)) return 0;
+        if (n % 2) arrives_forged(i);
         for (int twice = 0; twice < 2; twice++) arrives(i, swept_length, senders[i].source_len, 2048);
     }
     call_listing(slot, 2048);
@@ -1887,12 +1897,12 @@ static void sweep_texts(void)
     }
 }
 
-/* ---- the sweep of counters: an entry that has a history, with each two of these counters, and whatever an arrival, a listing, a load, a change, a removal and an
- * install make of them */
+/* ---- the sweep of counters: an entry that has a history, with each two of these counters, and whatever an arrival, a listing, a load, a change, a removal
+ * and an install make of them */
 
-enum { COUNTERS = 20 };
+enum { FIXED = 13, COUNTERS = 20 };
 static uint64_t counters[COUNTERS] = {0, 1, 255, 256, 65535, 65536, (1 << 24) - 1, 1 << 24, CRISP_COUNTED - 1, CRISP_COUNTED, CRISP_COUNTED + 1ULL,
-                                      1ULL << 63, UINT64_MAX};         /* and random ones */
+                                      1ULL << 63, UINT64_MAX};          /* and random ones */
 
 /* arrivals at the entry, and what they meet where it is not damaged */
 enum { MEETINGS = 14 };
@@ -1910,7 +1920,7 @@ static struct message *meets(int from, uint64_t reply)
     return m;
 }
 
-/* the entry has taken what was swept last; of its next message too one byte is changed */
+/* the entry has taken what was swept last, and will take the next message unless one byte of it is changed */
 static int make_meetings(int i)
 {
     struct history h;
@@ -1992,7 +2002,7 @@ static void sweep_climb(size_t slot, uint64_t from, uint64_t times)
 static void sweep_counters(void)
 {
     static uint8_t anew[CRISP_TABLE];
-    for (int k = 13; k < COUNTERS; k++) counters[k] = rnd() >> below(64);
+    for (int k = FIXED; k < COUNTERS; k++) counters[k] = rnd() >> below(64);
     for (int k = 0; k < LOADED; k++) {
         int i = loaded[k].sender;
         size_t slot = loaded[k].slot;
