@@ -268,7 +268,7 @@ struct crisp_answer crisp_remove(uint8_t table[CRISP_AT_LEAST CRISP_TABLE], size
  *
  * The old entry's history ends, and a new one begins. With a new key start is 0: an old message fails its check (11) and counts as forged. The same
  * key has a past: list the entry first, after its last arrival, and hand in as start the larger of its start and one more than its highest number, as
- * is said at crisp_install. Then nothing that was counted before the change is handed out after it. Changed to the same key with start 0, for another
+ * is said at crisp_install. Then nothing that was accepted before the change is handed out after it. Changed to the same key with start 0, for another
  * window say, the entry lets its archive pass once more, in the order of its numbers all of it: each old message is genuine, its number is new to the
  * fresh entry, and it is booked a second time.
  *

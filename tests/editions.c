@@ -1,7 +1,7 @@
-/* editions.c: the forty old controllers, end to end. Each sends by edition 1: a gateway that has its key data with edition 2 refuses every message with 11,
- * counts it as forged and stays else as it was, one that has it with edition 1 hands out the payload. Forty new controllers the other way round. Then every edition that is not
- * sound with a suite, for each of the four, at a sender, at an install and in a slot; the numbers for which both editions make the same message; and
- * those that have one gamma in edition 1. Prints one line, or what does not hold. */
+/* editions.c: the forty old controllers, end to end. Each sends by edition 1: a gateway that has its key data with edition 2 refuses every message with 11
+ * and counts it as forged, which is all that changes there; one that has it with edition 1 hands out the payload. Forty new controllers the other way
+ * round. Then every edition that is not sound with a suite, for each of the four, at a sender, at an install and in a slot; the numbers for which both
+ * editions make the same message; and those that have one gamma in edition 1. Prints one line, or what does not hold. */
 #include "crisp.h"
 #include "random.h"
 #include "suites.h"

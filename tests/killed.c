@@ -1,5 +1,5 @@
 /* killed.c: examples/kept.c, killed at each of its calls that change a file, in four ways, started again and gone on with. Afterwards no number was
- * used by two messages, each message that left whole was booked once and counted, and what came again while nothing was killed is among the replays. Then
+ * used by two messages, each message that left whole was booked once and counted, and what the last run refused as repeated is among the replays. Then
  * several senders at once, on one record.
  *
  *   killed FOLDER        an empty folder; built with -DKEPT='"the example"' */
