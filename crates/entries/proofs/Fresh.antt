@@ -32,7 +32,7 @@ length-head flag suite edition = simp (length-append, length-bytes)
 pub length-frame : (f : Frame) → length (frameBytes f) ≡ 16
 length-frame f = simp (length-append, length-bytes)
 
--- the parts of a slot, but for window and totals
+-- the parts of a slot, but for window, totals and counters
 pub record Parts (k : KeyData) (s : List ℕ) : Type 0 where
   pub first : getD s occupiedAt 0 ≡ 1
   pub flag-is : flagOf s ≡ k .flag

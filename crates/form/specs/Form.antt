@@ -23,7 +23,7 @@ pub record SettledValues : Type 0 where
   pub named : NamedValues
   pub terms : TermLines
 
--- what the arrivals moved that were handed out
+-- what the accepted messages moved
 pub record MovedValues : Type 0 where
   pub highest : ℕ
   pub marks : ℕ

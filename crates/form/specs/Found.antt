@@ -19,8 +19,8 @@ use Rattle.form.specs.declared.lines.Settled.{Settled}
 use Rattle.form.specs.declared.lines.Settled.the-variants as settled
 use Rattle.form.specs.declared.lines.Moved.{Moved}
 use Rattle.form.specs.declared.lines.Moved.the-variants as moved
-use Rattle.form.specs.declared.lines.Counted.{Counted}
-use Rattle.form.specs.declared.lines.Counted.the-variants as counted
+use Rattle.form.specs.declared.lines.Refused.{Refused}
+use Rattle.form.specs.declared.lines.Refused.the-variants as refused
 use Rattle.form.specs.declared.lines.Arrivals.{Arrivals}
 use Rattle.form.specs.declared.lines.Arrivals.the-variants as arrivals
 use Rattle.form.specs.declared.reader.Lines.{Lines}
@@ -69,9 +69,9 @@ abbrev pub FindsMoved : List ℕ → Read MovedValues → Moved → Type 0
 FindsMoved text read (moved.Is v next) = (read ≡ got (movedValues text v) (drop next text)) × (next ≤ length text) × MovedWithin text v
 FindsMoved text read moved.Bad = read ≡ failed
 
-abbrev pub FindsCounters : List ℕ → Read Counters → Counted → Type 0
-FindsCounters text read (counted.Is v next) = (read ≡ got v (drop next text)) × (next ≤ length text)
-FindsCounters text read counted.Bad = read ≡ failed
+abbrev pub FindsCounters : List ℕ → Read Counters → Refused → Type 0
+FindsCounters text read (refused.Is v next) = (read ≡ got v (drop next text)) × (next ≤ length text)
+FindsCounters text read refused.Bad = read ≡ failed
 
 abbrev pub FindsArrivals : List ℕ → Read ArrivalValues → Arrivals → Type 0
 FindsArrivals text read (arrivals.Is v w next) = (read ≡ got (arrivalValues text v w) (drop next text)) × (next ≤ length text) × MovedWithin text v

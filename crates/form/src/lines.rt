@@ -1,4 +1,4 @@
-// The lines of a listing, read from a place of the text: in four stretches, as they are printed, two of which an install settled and two are by the arrivals.
+// The lines of a listing, read from a place of the text: in four stretches, as they are printed: two that an install settled, and two by the arrivals.
 ghost use mathlib.Core.Path.{_≡_};
 ghost use Prim.Native.Nat.{_≤_};
 ghost use lib.ListN.{length, drop};
@@ -26,7 +26,7 @@ pub struct TermLines {
     pub frame: Frame,
 }
 
-// What the arrivals moved that were handed out.
+// What the accepted messages moved.
 pub struct MovedLines {
     pub highest: u64,
     pub marks: Hex,
@@ -55,7 +55,7 @@ pub enum Moved {
     Bad,
 }
 
-pub enum Counted {
+pub enum Refused {
     Is(Counters, usize),
     Bad,
 }
@@ -85,13 +85,13 @@ pub(crate) fn arrivals_at(text: &[u8], at: usize) -> Arrivals
     let Moved::Is(moved, a) = moved_at(text, at) else {
         return Arrivals::Bad;
     };
-    let Counted::Is(counters, next) = counters_at(text, a) else {
+    let Refused::Is(counters, next) = counters_at(text, a) else {
         return Arrivals::Bad;
     };
     Arrivals::Is(moved, counters, next)
 }
 
-// The lines that the arrivals moved which were handed out.
+// The lines that the accepted messages moved.
 fn moved_at(text: &[u8], at: usize) -> Moved
     ensures { λ r. ⌜ FindsMoved (now (text .entry)) (readMoved (drop at (now (text .entry)))) r ⌝ }
 {
@@ -186,19 +186,19 @@ fn terms_at(text: &[u8], at: usize) -> Terms
 }
 
 // The lines of what was turned away.
-fn counters_at(text: &[u8], at: usize) -> Counted
+fn counters_at(text: &[u8], at: usize) -> Refused
     requires { ⌜ at ≤ length (now text) ⌝ }
     ensures { λ r. ⌜ FindsCounters (now (text .entry)) (readCounters (drop at (now (text .entry)))) r ⌝ }
 {
     let Number::Is(replays, a) = reading::decimal_line(b"replays=", text, at) else {
-        return Counted::Bad;
+        return Refused::Bad;
     };
     let Number::Is(forged, next) = reading::decimal_line(b"forged=", text, a) else {
-        return Counted::Bad;
+        return Refused::Bad;
     };
     let counters = Counters {
         replays: replays,
         forged: forged,
     };
-    Counted::Is(counters, next)
+    Refused::Is(counters, next)
 }

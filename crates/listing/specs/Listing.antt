@@ -73,7 +73,7 @@ termLines s =
     ++ decimalLine sizeName (entryOf s .window .frame .size)
     ++ decimalLine startName (entryOf s .window .frame .start)
 
--- what the arrivals that were handed out moved
+-- what the accepted messages moved
 unfoldable pub movedLines : List ℕ → List ℕ
 movedLines s =
     hexLine highestName (bytesOf 6 (entryOf s .window .highest))

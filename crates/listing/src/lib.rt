@@ -86,7 +86,7 @@ fn write_terms(slot: &[u8], out: &mut [u8], at: usize) -> usize
     text::write_decimal_line(b"start=", octets::read(slot, layout::START, 8), out, c)
 }
 
-// The lines that the arrivals moved which were handed out, from `at` on. Answers where they end.
+// The lines that the accepted messages moved, from `at` on. Answers where they end.
 fn write_moved(slot: &[u8], out: &mut [u8], at: usize) -> usize
     requires { ⌜ (length (now slot) ≡ slotLength) × (at ≤ 780) × (outputRoom ≤ length (now out)) ⌝ }
     ensures { λ r. ⌜ (r ≡ at + length (movedLines (now (slot .entry)))) × (r ≤ 1000) ⌝ }

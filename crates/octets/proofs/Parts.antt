@@ -71,6 +71,11 @@ module _ (l : List ℕ) (at : ℕ) (new : List ℕ) (h : at + length new ≤ len
       ext-getD 0 (part at (length new) (put l at new)) new long
       (λ i p. let q : i < length new = rw long at p in part-at at (length new) (put l at new) i q ∙ put-in i q)
 
+  -- a byte of a stretch beside it
+  byte-other : (b n i : ℕ) → i < n → (b + n ≤ at) ⊎ (at + length new ≤ b) → getD (put l at new) (b + i) 0 ≡ getD l (b + i) 0
+  byte-other b n i p beside =
+      ⊎-elim (λ (o : b + n ≤ at). put-below (b + i) (omega arith)) (λ (o : at + length new ≤ b). put-above (b + i) (omega arith)) beside
+
   -- what stands beside it
   pub part-other : (b n : ℕ) → b + n ≤ length l → (b + n ≤ at) ⊎ (at + length new ≤ b) → part b n (put l at new) ≡ part b n l
   part-other b n k beside =
@@ -78,18 +83,13 @@ module _ (l : List ℕ) (at : ℕ) (new : List ℕ) (h : at + length new ≤ len
       ext-getD 0 (part b n (put l at new)) (part b n l) (long ∙ sym (length-part b n l k))
       (λ i p.
       let q : i < n = rw long at p in
-      part-at b n (put l at new) i q
-      ∙ ⊎-elim (λ (o : b + n ≤ at). put-below (b + i) (omega arith)) (λ (o : at + length new ≤ b). put-above (b + i) (omega arith)) beside
-      ∙ sym (part-at b n l i q))
+      part-at b n (put l at new) i q ∙ byte-other b n i q beside ∙ sym (part-at b n l i q))
 
   -- a number that stands beside it
   pub number-other : (b n : ℕ) → (b + n ≤ at) ⊎ (at + length new ≤ b) → bigEndian n (drop b (put l at new)) ≡ bigEndian n (drop b l)
   number-other b n beside =
       number-same n (drop b (put l at new)) (drop b l)
-      (λ i p.
-      getD-drop b (put l at new) i 0
-      ∙ ⊎-elim (λ (o : b + n ≤ at). put-below (b + i) (omega arith)) (λ (o : at + length new ≤ b). put-above (b + i) (omega arith)) beside
-      ∙ sym (getD-drop b l i 0))
+      (λ i p. getD-drop b (put l at new) i 0 ∙ byte-other b n i p beside ∙ sym (getD-drop b l i 0))
 
   -- all before it, and all behind it
   pub take-put : (m : ℕ) → m ≤ at → take m (put l at new) ≡ take m l

@@ -24,6 +24,7 @@ use Rattle.format.specs.declared.header.Parsed.the-variants.{Read}
 use Rattle.message.specs.Sealing.{right}
 use Rattle.slots.specs.Table.{slotOf, entryOf, keyDataOf, replaced, slotCount, tableLength}
 use Rattle.slots.specs.Record.{undamaged}
+use Rattle.slots.proofs.Damage.{undamaged-entry}
 use Rattle.slots.proofs.Replacing.{length-replaced, slot-own, slot-other}
 use Rattle.slots.proofs.Rewriting.{Rewritten, raised-rewritten, rewritten-length, rewritten-slot, rewritten-keys}
 use Rattle.slots.proofs.Settled.{settled-rewritten}
@@ -256,9 +257,8 @@ again t long pre (c ∷ cs) others before all between u e =
 pub nothing-again : (t : List ℕ) → length t ≡ tableLength → (cs others : List Call) → AllArrive cs → AllArrive others → NothingHanded (results (run (run t cs) others) cs)
 nothing-again t long cs others all between = again t long [] cs others tt all between (run (run t cs) others) refl
 
--- and where nothing is handed out nothing moves but counters.
 but-none : (s : List ℕ) → ButCounters s s
-but-none s = record { before = refl; behind = refl }
+but-none s = record { before = refl; behind = refl; replays = omega arith; forged = omega arith }
 
 at-slot : (t : List ℕ) (long : length t ≡ tableLength) (i : ℕ) (small : i < slotCount) {s u : List ℕ} → Rewritten t i s u → ButCounters (slotOf t i) s
     → (j : ℕ) → j < slotCount → Dec (j ≡ i) → ButCounters (slotOf t j) (slotOf u j)
@@ -281,9 +281,10 @@ refused-moves t long m source out denied = by (decLt (received t m source out .a
         let small = leads-small t i (c .header .flag) (keyIdBytes (c .header) m) source (c .led .found) in
         let within = counter-within (r .answer .reply) in
         let w = raised-rewritten t i long small at (within .0) (within .1) in
-        let own = raised-around (slotOf t i) at (slot-length t i long small) (within .0) (within .1) in
+        let own = raised-around (slotOf t i) (slot-length t i long small) (undamaged-entry (slotOf t i) (c .unharmed)) (r .answer .reply) in
         subst (TableButCounters t) (sym (c .leaves)) (record { long = rewritten-length t i long small w; slots = λ j inside. at-slot t long i small w own j inside (ℕ-discrete j i) })
 
+-- and where nothing is handed out nothing moves but counters.
 pub nothing-moves : (t : List ℕ) → length t ≡ tableLength → (cs : List Call) → AllArrive cs → NothingHanded (results t cs) → TableButCounters t (run t cs)
 nothing-moves t long [] all none = record { long = long; slots = λ i small. but-none (slotOf t i) }
 nothing-moves t long (arrival m source out ∷ cs) all none =
@@ -295,7 +296,12 @@ nothing-moves t long (arrival m source out ∷ cs) all none =
           λ i small.
           let p = first .slots i small in
           let q = rest .slots i small in
-          record { before = q .before ∙ p .before; behind = q .behind ∙ p .behind };
+          record {
+            before = q .before ∙ p .before;
+            behind = q .behind ∙ p .behind;
+            replays = omega (arith, p .replays, q .replays);
+            forged = omega (arith, p .forged, q .forged);
+          };
     }
 nothing-moves t long (install k f ∷ cs) all none = absurd (all .0)
 nothing-moves t long (remove j ∷ cs) all none = absurd (all .0)

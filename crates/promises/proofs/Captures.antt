@@ -129,8 +129,10 @@ module _ (t : List ℕ) (long : length t ≡ tableLength) where
       let all = calls-arrive file bytes in
       let found = run (run t (callsIn file)) others in
       let none = nothing-again t long (callsIn file) others all between in
+      let first = run-long t long (callsIn file) (arrivals-bytes (callsIn file) all) in
+      let whole = run-long (run t (callsIn file)) first others (arrivals-bytes others between) in
       rw (reported-run t file out room)
-      (none, lines-refused found (recordsOf file) none, λ other enough. rw (reported-run found file other enough) (nothing-moves found (run-long (run t (callsIn file)) (run-long t long (callsIn file) (arrivals-bytes (callsIn file) all)) others (arrivals-bytes others between)) (callsIn file) all none))
+      (none, lines-refused found (recordsOf file) none, λ other enough. rw (reported-run found file other enough) (nothing-moves found whole (callsIn file) all none))
 
   -- Two files, read one after the other, are the calls of both, and these book no number twice. That holds of any two files, so in either order.
   pub two-files : (first second out other : List ℕ) → Bytes first → Bytes second → textRoom ≤ length out → textRoom ≤ length other

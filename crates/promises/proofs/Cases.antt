@@ -40,12 +40,16 @@ module _ {b : Beginning} {i : ℕ} {t : List ℕ} {past : List Told} (now : Stan
   abbrev call : Call
   call = arrival m source out
 
+  -- the entry after it, by what is told
+  moves : {w : Told} → told b past call ≡ w → entryOf (slotOf (called t call .table) i) ≡ entryBy w entry
+  moves e = step now call bytes refl .moves ∙ ap (λ (z : Told). entryBy z entry) e
+
   -- by the two tests on its number
   by-tests : (x : Message) (low met : Bool) → told b past call ≡ tested low met true x → verdictOf (entry .window) (x .number) ≡ judge low met
       → called t call .answer .reply ≡ replyTo (told b past call) → Turns entry i (x .number) (x .payload) (called t call)
-  by-tests x true met w v r = record { replies = r ∙ rw (w, v); leaves = rw v (step now call bytes refl .moves ∙ ap (λ (z : Told). entryBy z entry) w) }
-  by-tests x false true w v r = record { replies = r ∙ rw (w, v); leaves = rw v (step now call bytes refl .moves ∙ ap (λ (z : Told). entryBy z entry) w) }
-  by-tests x false false w v r = record { replies = r ∙ rw (w, v); leaves = rw v (step now call bytes refl .moves ∙ ap (λ (z : Told). entryBy z entry) w) }
+  by-tests x true met w v r = record { replies = r ∙ rw (w, v); leaves = rw v (moves w) }
+  by-tests x false true w v r = record { replies = r ∙ rw (w, v); leaves = rw v (moves w) }
+  by-tests x false false w v r = record { replies = r ∙ rw (w, v); leaves = rw v (moves w) }
 
   of-header : (h : Header) → readOf m ≡ Read h → isGenuine (b .keys) (Read h) m source ≡ true → Turns entry i (h .seqnum) (payloadLength h m) (called t call)
   of-header h read g =

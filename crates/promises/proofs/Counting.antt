@@ -47,10 +47,10 @@ grown used past = refl
 grown forged past = refl
 grown (new x) past = refl
 
--- one call more moves the counters by what is told of it
 pub same-counters : {r s f g : ℕ} → r ≡ s → f ≡ g → _≡_ {A = Counters} (record { replays = r; forged = f }) (record { replays = s; forged = g })
 same-counters p q = rw (p, q)
 
+-- one call more moves the counters by what is told of it
 counters-grow : (b : Beginning) (past : List Told) (w : Told) → countersBy w (countersSince b past) ≡ countersSince b (w ∷ past)
 counters-grow b past apart = same-counters (omega arith) (omega arith)
 counters-grow b past below = same-counters (omega arith) (omega arith)

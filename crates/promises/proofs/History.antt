@@ -1,21 +1,21 @@
 -- Demand 3: from where a history begins in slot i, after any calls that do not end it, the slot hands out exactly what is counted, and its
--- totals are what stood there and what was counted; what an auditor reads off that; the same of calls that were made; and the case of an install.
+-- totals are what stood there and what was counted, its counters what stood there and what was refused, cut; what an auditor reads off that; the same of calls that were made; and the case of an install.
 -- Assumes nothing.
 use mathlib.Core.Path.{_≡_, refl, sym, ap, subst, _∙_}
 use mathlib.Core.Bool.{Bool, true, false, cond, _&&_, _||_, true≢false, not-eq-not}
 use mathlib.Core.List.{List, [], _∷_, _++_}
-use mathlib.Core.Logic.{_⊎_, inl, inr}
 use Prim.Native.Nat.{ℕ, _+_}
 use native.Mathlib.Omega.{arith}
 use borrow.Author.Tests.{eq-eqb}
-use lib.Dec.{eqb, ltb, lit≤}
+use lib.Dec.{eqb, ltb}
 use lib.ListN.{length}
-use Rattle.answers.specs.Answers.{outputRoom}
+use Rattle.answers.specs.Answers.{outputRoom, belowFloor, repeated, wrongIcv}
 use Rattle.octets.specs.Octets.{Bytes, put}
 use Rattle.numbers.proofs.Tests.{either}
 use Rattle.window.specs.declared.Frame.{Frame}
 use Rattle.window.specs.Counters.{cut}
 use Rattle.window.specs.Entry.{taken, counting}
+use Rattle.window.proofs.Entries.{UndamagedEntry}
 use Rattle.format.specs.Header.{readOf, payloadLength, keyIdBytes}
 use Rattle.format.specs.KeyData.{KeyData}
 use Rattle.format.specs.Suite.{numberOf}
@@ -23,7 +23,7 @@ use Rattle.format.specs.declared.header.Header.{Header}
 use Rattle.format.specs.declared.header.Parsed.{Parsed}
 use Rattle.format.specs.declared.header.Parsed.the-variants.{Read, BadLength, BadVersion, BadSuite, TooShort}
 use Rattle.message.specs.Sealing.{right, opened}
-use Rattle.slots.specs.Table.{slotOf, countersOf, entryOf, raisedIn, slotLength, tableLength, replaysAt, forgedAt}
+use Rattle.slots.specs.Table.{slotOf, countersOf, entryOf, raisedIn, slotLength, tableLength, replaysAt}
 use Rattle.slots.proofs.Slots.{slot-length}
 use Rattle.lookup.specs.Lookup.{leadsTo}
 use Rattle.lookup.specs.declared.Found.the-variants.{At}
@@ -53,12 +53,12 @@ told-entry used s none = refl
 told-entry forged s none = refl
 told-entry (new x) s none = cc
 
-told-around : (w : Told) (s : List ℕ) → length s ≡ slotLength → countedOf w ≡ nothing → ButCounters s (slotBy w s)
-told-around apart s long none = record { before = refl; behind = refl }
-told-around below s long none = raised-around s replaysAt long (lit≤ tt) (lit≤ tt)
-told-around used s long none = raised-around s replaysAt long (lit≤ tt) (lit≤ tt)
-told-around forged s long none = raised-around s forgedAt long (lit≤ tt) (lit≤ tt)
-told-around (new x) s long none = absurd (nothing-given (sym none))
+told-around : (w : Told) (s : List ℕ) → length s ≡ slotLength → UndamagedEntry (entryOf s) → countedOf w ≡ nothing → ButCounters s (slotBy w s)
+told-around apart s long whole none = record { before = refl; behind = refl; replays = omega arith; forged = omega arith }
+told-around below s long whole none = raised-around s long whole belowFloor
+told-around used s long whole none = raised-around s long whole repeated
+told-around forged s long whole none = raised-around s long whole wrongIcv
+told-around (new x) s long whole none = absurd (nothing-given (sym none))
 
 -- ---- a history that begins in slot i of a table
 
@@ -147,7 +147,7 @@ module _ {b : Beginning} {i : ℕ} {t : List ℕ} (begins : Begins b i t) where
     uncounted-stays c further none =
         let s = slotOf (run t cs) i in
         let held = stands cs goes .held in (
-          rw (slot-told c further) (told-around (told b (toldBy b cs) c) s (slot-length (run t cs) i (held .long) (held-small held)) none),
+          rw (slot-told c further) (told-around (told b (toldBy b cs) c) s (slot-length (run t cs) i (held .long) (held-small held)) (stands cs goes .agrees .unharmed) none),
           entry-told c further ∙ told-entry (told b (toldBy b cs) c) s none,
         )
 
@@ -155,31 +155,29 @@ module _ {b : Beginning} {i : ℕ} {t : List ℕ} (begins : Begins b i t) where
     pub apart-stays : (c : Call) → GoesOn i (run t cs) (c ∷ []) → told b (toldBy b cs) c ≡ apart → slotOf (after (run t cs) c) i ≡ slotOf (run t cs) i
     apart-stays c further is = slot-told c further ∙ ap (λ (w : Told). slotBy w (slotOf (run t cs) i)) is
 
-    -- and one below the floor, or whose number was counted or used before, genuine or not, every byte but those of the counter of replays, which has one more
-    -- or stays at its limit, if it moves at all;
+    -- one below the floor, or whose number was counted or used before, genuine or not, every byte but those of the counter of replays: this has one more, or
+    -- stays at its limit, if the message came with room and is of the entry and of its suite,
     pub stale-stays : (message source out : List ℕ) → Bytes message → (h : Header) → readOf message ≡ Read h
         → (isBelow b (toldBy b cs) (h .seqnum) || isUsed b (toldBy b cs) (h .seqnum)) ≡ true
-        → let s = slotOf (run t cs) i in let next = slotOf (after (run t cs) (arrival message source out)) i in (next ≡ s) ⊎ (next ≡ raisedIn replaysAt s)
+        → let s = slotOf (run t cs) i in let mine = isOf (b .keys) h message source && eqb (b .keys .suite) (numberOf (h .suite)) in
+        slotOf (after (run t cs) (arrival message source out)) i ≡ cond (ltb (length out) outputRoom) s (cond mine (raisedIn replaysAt s) s)
     stale-stays message source out bytes h read old =
-        by (ltb (length out) outputRoom) (isOf (b .keys) h message source && eqb (b .keys .suite) (numberOf (h .suite))) (isBelow b (toldBy b cs) (h .seqnum))
+        rw read at (slot-told (arrival message source out) (bytes, refl, tt))
+        ∙ by (ltb (length out) outputRoom) (isOf (b .keys) h message source && eqb (b .keys .suite) (numberOf (h .suite))) (isBelow b (toldBy b cs) (h .seqnum))
         (isUsed b (toldBy b cs) (h .seqnum)) (right h (b .keys) message) (record { number = h .seqnum; payload = payloadLength h message }) old
-        (rw read at (slot-told (arrival message source out) (bytes, refl, tt)))
       where
-        next : List ℕ
-        next = slotOf (after (run t cs) (arrival message source out)) i
-
         s : List ℕ
         s = slotOf (run t cs) i
 
-        by : (short mine low met icv : Bool) (x : Message) → (low || met) ≡ true → next ≡ slotBy (cond short apart (cond mine (tested low met icv x) apart)) s
-            → (next ≡ s) ⊎ (next ≡ raisedIn replaysAt s)
-        by true mine low met icv x e is = inl is
-        by false false low met icv x e is = inl is
-        by false true true met icv x e is = inr is
-        by false true false true icv x e is = inr is
-        by false true false false icv x e is = absurd (true≢false (sym e))
+        by : (short mine low met icv : Bool) (x : Message) → (low || met) ≡ true
+            → slotBy (cond short apart (cond mine (tested low met icv x) apart)) s ≡ cond short s (cond mine (raisedIn replaysAt s) s)
+        by true mine low met icv x e = refl
+        by false false low met icv x e = refl
+        by false true true met icv x e = refl
+        by false true false true icv x e = refl
+        by false true false false icv x e = absurd (true≢false (sym e))
 
-    -- a message that leads elsewhere leaves every byte.
+    -- and a message that leads elsewhere every byte.
     pub elsewhere-stays : (message source out : List ℕ) → Bytes message
         → ((h : Header) → readOf message ≡ Read h → leadsTo (run t cs) (h .flag) (keyIdBytes h message) source ≡ At i → ⊥)
         → slotOf (after (run t cs) (arrival message source out)) i ≡ slotOf (run t cs) i

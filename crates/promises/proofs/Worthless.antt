@@ -4,6 +4,7 @@
 use mathlib.Core.Path.{_≡_, refl, sym, ap, _∙_}
 use mathlib.Core.Bool.{Bool, true, false, cond}
 use mathlib.Core.List.{List, _∷_}
+use mathlib.Core.Logic.{_⊎_, inl, inr}
 use Prim.Native.Nat.{ℕ, _<_}
 use native.Mathlib.Omega.{arith}
 use borrow.Author.Tests.{eqb-true}
@@ -14,7 +15,7 @@ use Rattle.answers.specs.declared.Answer.{Answer}
 use Rattle.window.specs.Counters.{counterLimit}
 use Rattle.slots.specs.Table.{slotOf, entryOf}
 use Rattle.promises.specs.Calls.{Call, arrival, install, remove, change, load, OfBytes, called, isDone}
-use Rattle.promises.specs.Counted.{Beginning, Message, Told, new, isReplay, told}
+use Rattle.promises.specs.Counted.{Beginning, Message, Told, new, isReplay, isForgery, told}
 use Rattle.promises.proofs.Counting.{same-counters}
 use Rattle.promises.specs.History.{nothing, one, answered, countedOf, Accounts}
 
@@ -67,7 +68,13 @@ module _ {b : Beginning} {i : ℕ} {t : List ℕ} {past : List Told} (a : Accoun
     same-counters (a .replays ∙ sym (other .replays)) (a .forged ∙ sym (other .forged)),
   )
 
-  -- Nor is a refusal forgotten: below the limit, no table accounts for one refusal more with what stood in the slot before.
-  pub must-count : (u : List ℕ) (w : Told) → isReplay w ≡ true → entryOf (slotOf t i) .counters .replays < counterLimit → Accounts b i u (w ∷ past) → slotOf u i ≡ slotOf t i → ⊥
-  must-count u w replay low later same =
-      omega (arith, a .replays, ap (λ (n : ℕ). n) (rw replay at (later .replays)), ap (λ (s : List ℕ). entryOf s .counters .replays) same)
+  -- Nor is a refusal forgotten: below the limit, no table accounts for one more with what stood in the slot before.
+  pub must-count : (u : List ℕ) (w : Told) → let c = entryOf (slotOf t i) .counters in
+      ((isReplay w ≡ true) × (c .replays < counterLimit)) ⊎ ((isForgery w ≡ true) × (c .forged < counterLimit))
+      → Accounts b i u (w ∷ past) → slotOf u i ≡ slotOf t i → ⊥
+  must-count u w (inl (is, low)) later same =
+      let more = rw is at (later .replays) in
+      omega (arith, a .replays, more, ap (λ (s : List ℕ). entryOf s .counters .replays) same)
+  must-count u w (inr (is, low)) later same =
+      let more = rw is at (later .forged) in
+      omega (arith, a .forged, more, ap (λ (s : List ℕ). entryOf s .counters .forged) same)

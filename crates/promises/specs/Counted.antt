@@ -1,6 +1,7 @@
--- What is counted (demand 3; 02, No. 8: "Demand 3 gains them, each defined from the history"): "count a message of that entry if it is genuine, came with room, is not below the floor of the highest number
+-- What is counted (demand 3): "count a message of that entry if it is genuine, came with room, is not below the floor of the highest number
 -- counted before, and no counted message had its number." It is told by where the history began and by the calls since then. No table is
--- among the arguments, so no mark, highest number or total of a table can enter.
+-- among the arguments, so no mark, highest number, total or counter of a table can enter. And what is turned away (02, No. 8): "Demand 3 gains them, each
+-- defined from the history, cut at that limit".
 use mathlib.Core.Bool.{Bool, true, false, cond, not, _&&_, _||_}
 use mathlib.Core.List.{List, [], _∷_, map}
 use Prim.Native.Nat.{ℕ, _+_, max}

@@ -3,16 +3,17 @@
 -- 11, cut at their limit (02, No. 8). A history begins with any undamaged entry, a fresh one or one that
 -- has a past, and goes on until the entry is removed or changed, or takes a listing.
 use mathlib.Core.Path.{_≡_}
-use mathlib.Core.Bool.{Bool, true, false, cond}
+use mathlib.Core.Bool.{Bool, true, false, cond, _&&_, _||_}
 use mathlib.Core.List.{List, [], _∷_}
 use mathlib.Core.Option.{some}
 use Prim.Native.Nat.{ℕ, _+_, _≤_, _<_}
+use lib.Dec.{eqb}
 use lib.ListN.{length, take, drop}
 use Rattle.answers.specs.Answers.{outputRoom, otherSuite, belowFloor, repeated, wrongIcv}
 use Rattle.answers.specs.declared.Answer.{Answer}
-use Rattle.octets.specs.Octets.{Bytes, put}
+use Rattle.octets.specs.Octets.{Bytes}
 use Rattle.window.specs.Window.{floorOf, marked}
-use Rattle.window.specs.Counters.{cut, oneReplay, oneForgery}
+use Rattle.window.specs.Counters.{oneReplay, oneForgery}
 use Rattle.window.specs.declared.Counters.{Counters}
 use Rattle.window.specs.Entry.{Entry, taken, counting}
 use Rattle.format.specs.Header.{readOf}
@@ -20,7 +21,7 @@ use Rattle.format.specs.KeyData.{KeyData}
 use Rattle.format.specs.declared.header.Header.{Header}
 use Rattle.format.specs.declared.header.Parsed.{Parsed}
 use Rattle.format.specs.declared.header.Parsed.the-variants.{Read, BadLength, BadVersion, BadSuite, TooShort}
-use Rattle.slots.specs.Table.{slotOf, windowOf, entryOf, keyDataOf, historyBytes, raisedIn, slotCount, tableLength, highestAt, replaysAt, forgedAt, spareAt}
+use Rattle.slots.specs.Table.{slotOf, windowOf, entryOf, keyDataOf, countersOf, settledIn, raisedIn, slotCount, tableLength, replaysAt, forgedAt, spareAt}
 use Rattle.slots.specs.Record.{undamaged}
 use Rattle.lookup.specs.Lookup.{leadsTo}
 use Rattle.lookup.specs.declared.Found.the-variants.{At}
@@ -28,7 +29,7 @@ use Rattle.entries.specs.Install.{isFair}
 use Rattle.form.specs.Form.{Listing, listingIn}
 use Rattle.gateway.specs.Receive.{Received}
 use Rattle.promises.specs.Calls.{Call, arrival, install, remove, change, load, OfBytes, called, run, results, isDone}
-use Rattle.promises.specs.Counted.{Beginning, Message, Told, apart, below, used, forged, new, messages, numbersOf, numbers, isIn, isReplay, isForgery, howMany, highestSince, isOf, told}
+use Rattle.promises.specs.Counted.{Beginning, Message, Told, apart, below, used, forged, new, messages, numbersOf, numbers, isIn, countersSince, highestSince, isOf, told}
 
 -- ---- where a history begins in a table
 
@@ -127,6 +128,33 @@ replyTo used = repeated
 replyTo forged = wrongIcv
 replyTo (new x) = 0
 
+-- whether a message of the entry comes with a header that can be read
+abbrev pub isMine : KeyData → Parsed → List ℕ → List ℕ → Bool
+isMine k (Read h) message source = isOf k h message source
+isMine k BadLength message source = false
+isMine k BadVersion message source = false
+isMine k BadSuite message source = false
+isMine k TooShort message source = false
+
+-- how many arrivals of the entry, of those that calls were, came back with a reply that passes a test; and the two tests of the counters
+abbrev pub isAnswered : KeyData → (ℕ → Bool) → Call → Answer → Bool
+isAnswered k test (arrival message source out) a = isMine k (readOf message) message source && test (a .reply)
+isAnswered k test (install other f) a = false
+isAnswered k test (remove j) a = false
+isAnswered k test (change j other f) a = false
+isAnswered k test (load text) a = false
+
+abbrev pub answeredIn : KeyData → (ℕ → Bool) → List Call → List Received → ℕ
+answeredIn k test (c ∷ cs) (r ∷ rs) = cond (isAnswered k test c (r .answer)) 1 0 + answeredIn k test cs rs
+answeredIn k test (c ∷ cs) [] = 0
+answeredIn k test [] rs = 0
+
+abbrev pub nineOrTen : ℕ → Bool
+nineOrTen reply = eqb reply belowFloor || eqb reply repeated
+
+abbrev pub eleven : ℕ → Bool
+eleven reply = eqb reply wrongIcv
+
 -- ---- what is told of a call settles what it leaves of the slot, to the byte
 
 -- nothing moves; one counter has one more; or window and totals take the message
@@ -135,9 +163,9 @@ slotBy apart s = s
 slotBy below s = raisedIn replaysAt s
 slotBy used s = raisedIn replaysAt s
 slotBy forged s = raisedIn forgedAt s
-slotBy (new x) s = put s highestAt (historyBytes (taken (entryOf s) (x .number) (x .payload)))
+slotBy (new x) s = settledIn (taken (entryOf s) (x .number) (x .payload)) s
 
--- the same of its entry
+-- the same of its counters, and of its entry
 abbrev pub countersBy : Told → Counters → Counters
 countersBy apart c = c
 countersBy below c = oneReplay c
@@ -152,22 +180,16 @@ entryBy used e = counting e (countersBy used (e .counters))
 entryBy forged e = counting e (countersBy forged (e .counters))
 entryBy (new x) e = taken e (x .number) (x .payload)
 
--- every byte of a slot stays but for those of its counters; and of a table, in every slot
+-- every byte of a slot stays but for those of its counters, and these do not fall; and so in every slot of a table
 pub record ButCounters (s other : List ℕ) : Type 0 where
   pub before : take replaysAt other ≡ take replaysAt s
   pub behind : drop spareAt other ≡ drop spareAt s
+  pub replays : countersOf s .replays ≤ countersOf other .replays
+  pub forged : countersOf s .forged ≤ countersOf other .forged
 
 pub record TableButCounters (t u : List ℕ) : Type 0 where
   pub long : length u ≡ tableLength
   pub slots : (i : ℕ) → i < slotCount → ButCounters (slotOf t i) (slotOf u i)
-
--- whether a message of the entry comes with a header that can be read
-abbrev pub isMine : KeyData → Parsed → List ℕ → List ℕ → Bool
-isMine k (Read h) message source = isOf k h message source
-isMine k BadLength message source = false
-isMine k BadVersion message source = false
-isMine k BadSuite message source = false
-isMine k TooShort message source = false
 
 -- ---- demand 3
 
@@ -191,8 +213,8 @@ pub record Accounts (b : Beginning) (i : ℕ) (t : List ℕ) (past : List Told) 
   pub accepted : entryOf (slotOf t i) .accepted ≡ b .accepted + length (different (numbers past))
   pub bytes : entryOf (slotOf t i) .bytes ≡ b .bytes + total (messages past)
   -- the counters: what stood there, and how many arrivals were refused with 9 or 10, and with 11, cut at the limit
-  pub replays : entryOf (slotOf t i) .counters .replays ≡ cut (b .counters .replays + howMany isReplay past)
-  pub forged : entryOf (slotOf t i) .counters .forged ≡ cut (b .counters .forged + howMany isForgery past)
+  pub replays : entryOf (slotOf t i) .counters .replays ≡ countersSince b past .replays
+  pub forged : entryOf (slotOf t i) .counters .forged ≡ countersSince b past .forged
   -- no number was counted twice
   pub once : different (numbers past) ≡ numbers past
   pub highest : windowOf (slotOf t i) .highest ≡ highestSince b past

@@ -1,4 +1,4 @@
--- The damage rule on a slot: what each part of it says, and how small it keeps window and totals.
+-- The damage rule on a slot: what each part of it says, and how small it keeps the totals.
 -- Assumes nothing.
 use mathlib.Core.Path.{_≡_, sym, ap, _∙_}
 use mathlib.Core.Bool.{true, false}

@@ -85,46 +85,36 @@ pub record Rewritten (t : List ℕ) (i : ℕ) (s u : List ℕ) : Type 0 where
   pub is : u ≡ replaced t i s
 
 module _ (t : List ℕ) (i : ℕ) (long : length t ≡ tableLength) (small : i < slotCount) where
-  -- by bytes behind what an install settled
-  pub rewritten : (at : ℕ) (new : List ℕ) → highestAt ≤ at → at + length new ≤ spareAt → Rewritten t i (put (slotOf t i) at new) (put t (slotLength * i + at) new)
-  rewritten at new behind fits =
-      let s = slotOf t i in
-      let whole = slot-length t i long small in
-      record {
-        full = length-written s at new whole behind fits;
-        around = written-around s at new whole behind fits;
-        is = put-within t (slotLength * i) slotLength at new (omega arith) (omega arith);
-      }
+  -- a write into the table, within slot i
+  pub in-slot : (at : ℕ) (new : List ℕ) → at + length new ≤ slotLength → put t (slotLength * i + at) new ≡ replaced t i (put (slotOf t i) at new)
+  in-slot at new fits = put-within t (slotLength * i) slotLength at new (omega arith) fits
 
-  -- by one refusal more in a counter
+  -- bytes behind what an install settled
+  pub rewritten : (at : ℕ) (new : List ℕ) → highestAt ≤ at → at + length new ≤ spareAt → Rewritten t i (put (slotOf t i) at new) (replaced t i (put (slotOf t i) at new))
+  rewritten at new behind fits =
+      let whole = slot-length t i long small in
+      record { full = length-written (slotOf t i) at new whole behind fits; around = written-around (slotOf t i) at new whole behind fits; is = refl }
+
+  -- one refusal more in a counter
   pub raised-rewritten : (at : ℕ) → replaysAt ≤ at → at + 8 ≤ spareAt → Rewritten t i (raisedIn at (slotOf t i)) (raised t i at)
   unfolding raised
-  raised-rewritten at behind fits =
-      let s = slotOf t i in
-      let whole = slot-length t i long small in
-      record {
-        full = length-written s at _ whole (omega arith) (rw length-bytes fits);
-        around = written-around s at _ whole (omega arith) (rw length-bytes fits);
-        is = refl;
-      }
+  raised-rewritten at behind fits = rewritten at _ (omega arith) (rw length-bytes fits)
 
   -- what that changes: the counter has one more, or stays at its limit, and no other byte moves
   module _ (at : ℕ) (fits : at + 8 ≤ slotLength) where
-    in-place : raised t i at ≡ put t (slotLength * i + at) (bytesOf 8 (oneMore (bigEndian 8 (drop (slotLength * i + at) t))))
+    pub in-place : raised t i at ≡ put t (slotLength * i + at) (bytesOf 8 (oneMore (bigEndian 8 (drop (slotLength * i + at) t))))
     unfolding raised
     in-place =
         ap (λ (n : ℕ). replaced t i (put (slotOf t i) at (bytesOf 8 (oneMore n)))) (slot-number t i at 8 fits)
-        ∙ sym (put-within t (slotLength * i) slotLength at _ (omega arith) (rw length-bytes fits))
-
-    room-there : (n : ℕ) → slotLength * i + at + length (bytesOf 8 n) ≤ length t
-    room-there n = rw length-bytes (omega arith)
+        ∙ sym (in-slot at _ (rw length-bytes fits))
 
     pub raised-counter : bigEndian 8 (drop (slotLength * i + at) (raised t i at)) ≡ oneMore (bigEndian 8 (drop (slotLength * i + at) t))
     raised-counter = rw in-place (number-own t (slotLength * i + at) 8 (oneMore (bigEndian 8 (drop (slotLength * i + at) t))) (omega arith) (omega arith))
 
     pub raised-elsewhere : (b n : ℕ) → b + n ≤ tableLength → (b + n ≤ slotLength * i + at) ⊎ (slotLength * i + at + 8 ≤ b) → part b n (raised t i at) ≡ part b n t
     raised-elsewhere b n h beside =
-        rw in-place (part-other t (slotLength * i + at) (bytesOf 8 _) (room-there _) b n (rw long h) (rw length-bytes beside))
+        let new = bytesOf 8 (oneMore (bigEndian 8 (drop (slotLength * i + at) t))) in
+        rw in-place (part-other t (slotLength * i + at) new (rw length-bytes (omega arith)) b n (rw long h) (rw length-bytes beside))
 
   module _ {s u : List ℕ} (w : Rewritten t i s u) where
     pub rewritten-length : length u ≡ tableLength

@@ -18,7 +18,7 @@ use Rattle.window.specs.Counters.{oneMore, oneReplay, oneForgery}
 use Rattle.window.specs.Entry.{Entry, counting}
 use Rattle.window.proofs.Entries.{UndamagedEntry, totals-small}
 use Rattle.window.proofs.Undamaged.{undamaged-facts, marks-small}
-use Rattle.slots.specs.Table.{slotOf, windowOf, countersOf, entryOf, historyBytes, counterBytes, settled, restored, raisedIn, slotLength, slotCount, tableLength, sizeAt, startAt, highestAt, marksAt, acceptedAt, bytesAt, replaysAt, forgedAt, spareAt}
+use Rattle.slots.specs.Table.{slotOf, windowOf, countersOf, entryOf, historyBytes, counterBytes, settledIn, settled, restoredIn, restored, raisedIn, slotLength, slotCount, tableLength, sizeAt, startAt, highestAt, marksAt, acceptedAt, bytesAt, replaysAt, forgedAt, spareAt}
 use Rattle.slots.proofs.Rewriting.{Around, Rewritten, length-written, written-around, front-frame, rewritten, rewritten-slot}
 use Rattle.slots.proofs.Slots.{slot-length}
 use Rattle.slots.proofs.Standing.{Lies, joined, ahead, lies, number}
@@ -44,13 +44,10 @@ undamaged-fits {e} w =
       forged = omega (arith, w .few-forged);
     }
 
-length-history : (e : Entry) → length (historyBytes e) ≡ replaysAt - highestAt
+pub length-history : (e : Entry) → length (historyBytes e) ≡ replaysAt - highestAt
 length-history e = simp (length-append, length-bytes)
 
-length-counters : (c : Counters) → length (counterBytes c) ≡ spareAt - replaysAt
-length-counters c = simp (length-append, length-bytes)
-
-length-all : (e : Entry) → length (historyBytes e ++ counterBytes (e .counters)) ≡ spareAt - highestAt
+pub length-all : (e : Entry) → length (historyBytes e ++ counterBytes (e .counters)) ≡ spareAt - highestAt
 length-all e = simp (length-append, length-bytes)
 
 -- ---- window and totals in a slot
@@ -62,7 +59,7 @@ row-of-four s a b c d at n e = rw e (simp (append-assoc, append-nil))
 
 module _ (s : List ℕ) (e : Entry) (long : length s ≡ slotLength) where
   abbrev now : List ℕ
-  now = put s highestAt (historyBytes e)
+  now = settledIn e s
 
   fits-in : highestAt + length (historyBytes e) ≤ spareAt
   fits-in = rw (length-history e) (lit≤ tt)
@@ -160,7 +157,7 @@ module _ (s : List ℕ) (long : length s ≡ slotLength) where
 
 module _ (s : List ℕ) (e : Entry) (long : length s ≡ slotLength) where
   abbrev all : List ℕ
-  all = put s highestAt (historyBytes e ++ counterBytes (e .counters))
+  all = restoredIn e s
 
   -- one write behind the other
   by-parts : put (put (put s highestAt (historyBytes e)) replaysAt (bytesOf 8 (e .counters .replays))) forgedAt (bytesOf 8 (e .counters .forged)) ≡ all
@@ -172,7 +169,7 @@ module _ (s : List ℕ) (e : Entry) (long : length s ≡ slotLength) where
 
   pub restored-entry : Fits e → windowOf s .frame ≡ e .window .frame → entryOf all ≡ e
   restored-entry fits frame =
-      let first = put s highestAt (historyBytes e) in
+      let first = settledIn e s in
       let full = length-now s e long in
       let second = put first replaysAt (bytesOf 8 (e .counters .replays)) in
       let whole = length-written first replaysAt (bytesOf 8 (e .counters .replays)) full (lit≤ tt) (rw length-bytes (lit≤ tt)) in
@@ -208,24 +205,18 @@ module _ (s other : List ℕ) (long : length s ≡ slotLength) (b : Bytes s) whe
       rw (history-bytes, counter-bytes)
       (rw (drop-drop (replaysAt - highestAt) highestAt s) at (sym (take-add (replaysAt - highestAt) (spareAt - replaysAt) (drop highestAt s))))
 
-  pub same-around : Around s other → put other highestAt (historyBytes (entryOf s) ++ counterBytes (countersOf s)) ≡ s
+  pub same-around : Around s other → restoredIn (entryOf s) other ≡ s
   same-around a =
       rw (length-all (entryOf s), all-bytes, a .front, a .rest, ← take-add highestAt (spareAt - highestAt) s) (take-append-drop spareAt s)
 
 -- ---- a table
 
 module _ (t : List ℕ) (i : ℕ) (e : Entry) (long : length t ≡ tableLength) (small : i < slotCount) where
-  abbrev pub settledSlot : List ℕ
-  settledSlot = put (slotOf t i) highestAt (historyBytes e)
-
-  abbrev pub restoredSlot : List ℕ
-  restoredSlot = put (slotOf t i) highestAt (historyBytes e ++ counterBytes (e .counters))
-
-  pub settled-rewritten : Rewritten t i settledSlot (settled t i e)
+  pub settled-rewritten : Rewritten t i (settledIn e (slotOf t i)) (settled t i e)
   unfolding settled
   settled-rewritten = rewritten t i long small highestAt (historyBytes e) (lit≤ tt) (rw (length-history e) (lit≤ tt))
 
-  pub restored-rewritten : Rewritten t i restoredSlot (restored t i e)
+  pub restored-rewritten : Rewritten t i (restoredIn e (slotOf t i)) (restored t i e)
   unfolding restored
   restored-rewritten = rewritten t i long small highestAt (historyBytes e ++ counterBytes (e .counters)) (lit≤ tt) (rw (length-all e) (lit≤ tt))
 

@@ -152,19 +152,25 @@ historyBytes e = bytesOf 8 (e .window .highest) ++ bytesOf 32 (e .window .marks)
 abbrev pub counterBytes : Counters → List ℕ
 counterBytes c = bytesOf 8 (c .replays) ++ bytesOf 8 (c .forged)
 
--- the table with another window and other totals in slot i
-unfoldable pub settled : List ℕ → ℕ → Entry → List ℕ
-settled t i e = put t (slotLength * i + highestAt) (historyBytes e)
-
--- and with other counters too
-unfoldable pub restored : List ℕ → ℕ → Entry → List ℕ
-restored t i e = put t (slotLength * i + highestAt) (historyBytes e ++ counterBytes (e .counters))
-
 -- the table with other bytes in slot i
 abbrev pub replaced : List ℕ → ℕ → List ℕ → List ℕ
 replaced t i s = put t (slotLength * i) s
 
--- a slot with one refusal more in the counter that stands at a place of it, and the table with such a slot
+-- a slot with another window and other totals, and the table with such a slot
+abbrev pub settledIn : Entry → List ℕ → List ℕ
+settledIn e s = put s highestAt (historyBytes e)
+
+unfoldable pub settled : List ℕ → ℕ → Entry → List ℕ
+settled t i e = replaced t i (settledIn e (slotOf t i))
+
+-- with other counters too
+abbrev pub restoredIn : Entry → List ℕ → List ℕ
+restoredIn e s = put s highestAt (historyBytes e ++ counterBytes (e .counters))
+
+unfoldable pub restored : List ℕ → ℕ → Entry → List ℕ
+restored t i e = replaced t i (restoredIn e (slotOf t i))
+
+-- with one refusal more in the counter that stands at a place of it
 abbrev pub raisedIn : ℕ → List ℕ → List ℕ
 raisedIn at s = put s at (bytesOf 8 (oneMore (bigEndian 8 (drop at s))))
 

@@ -8,8 +8,8 @@ use Rattle.form.specs.Form.{readMoved, readCounters}
 use Rattle.form.specs.Found.{FindsMoved, FindsCounters}
 use Rattle.form.specs.declared.lines.Moved.{Moved}
 use Rattle.form.specs.declared.lines.Moved.the-variants as moved
-use Rattle.form.specs.declared.lines.Counted.{Counted}
-use Rattle.form.specs.declared.lines.Counted.the-variants as counted
+use Rattle.form.specs.declared.lines.Refused.{Refused}
+use Rattle.form.specs.declared.lines.Refused.the-variants as refused
 use Rattle.form.proofs.Chains.{one-fails, other-fails, both-got}
 use Rattle.form.proofs.Stretches.{arrivals-of, arrivals-two}
 use Rattle.form.proofs.lines.arrivals_at.Statement.{statement}
@@ -35,15 +35,15 @@ back₂ c = c .before .before .before .before
 moved-by : (text : List ℕ) (at : ℕ) {a b : Moved} → a ≡ b → FindsMoved text (readMoved (drop at text)) a → FindsMoved text (readMoved (drop at text)) b
 moved-by text at e r = subst (λ (x : Moved). FindsMoved text (readMoved (drop at text)) x) e r
 
-counters-by : (text : List ℕ) (at : ℕ) {a b : Counted} → a ≡ b → FindsCounters text (readCounters (drop at text)) a → FindsCounters text (readCounters (drop at text)) b
-counters-by text at e r = subst (λ (x : Counted). FindsCounters text (readCounters (drop at text)) x) e r
+counters-by : (text : List ℕ) (at : ℕ) {a b : Refused} → a ≡ b → FindsCounters text (readCounters (drop at text)) a → FindsCounters text (readCounters (drop at text)) b
+counters-by text at e r = subst (λ (x : Refused). FindsCounters text (readCounters (drop at text)) x) e r
 
 first : (c : tie.After-known-told) → let p = back₁ c in
     FindsMoved (text₀ p) (readMoved (left₀ p)) (moved.Is (c .before .moved .given .0 .0) (c .before .moved .given .0 .1 .0))
 first c = let p = back₁ c in moved-by (text₀ p) (p .before .before .args .at) (c .before .moved .given .1) (p .moved-at .ensures)
 
 second : (c : tie.After-known-told2) → let k = back₂ c in
-    FindsCounters (text₀ (back₁ k)) (readCounters (left₁ k)) (counted.Is (c .before .counters .given .0 .0) (c .before .counters .given .0 .1 .0))
+    FindsCounters (text₀ (back₁ k)) (readCounters (left₁ k)) (refused.Is (c .before .counters .given .0 .0) (c .before .counters .given .0 .1 .0))
 second c =
     let k = back₂ c in
     counters-by (text₀ (back₁ k)) (k .before .moved .given .0 .1 .0) (c .before .counters .given .1) (c .before .before .before .counters-at .ensures)

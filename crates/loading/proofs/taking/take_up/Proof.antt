@@ -25,7 +25,7 @@ start c = c .before .before .before .before .before .before .before
 standing : (c : tie.Else2) → let s = start c in stands (listing s .settled) (lent (s .args .table .now) (listing s .settled .named .slot)) ≡ true
 standing c = sym (c .before .stands .ensures) ∙ not-false (c .before .stands .result) (c .if2 .left)
 
--- the test of window and totals is one of what is listed
+-- the test of window, totals and counters is one of what is listed
 fit : (c : tie.After-undamaged-entry) → c .undamaged-entry .result ≡ undamagedEntry (listedEntry (listing (start (c .before .before .before .before .before .before))))
 fit c =
     let a = start (c .before .before .before .before .before .before) .args in

@@ -10,9 +10,10 @@ returns c =
     let forged = c .before .before in
     let replays = forged .before .before .before .before in
     let settled = replays .before .before .before .before in
-    let a = settled .before .before .before .args in
+    let start = settled .before .before .before in
+    let a = start .args in
     restored-put (a .table .now) _ _ _ (a .slot)
-    (record { window = viewOf (a .window); accepted = a .accepted; bytes = a .bytes; counters = a .counters }) _ (search needs)
+    (record { window = viewOf (a .window); accepted = a .accepted; bytes = a .bytes; counters = a .counters }) _ (start .pre .0) (start .pre .1)
     (settled .settle .ensures) (replays .write .ensures) (forged .write2 .ensures)
 
 pub restore-spec : {M : Type 1} → statement M

@@ -10,7 +10,7 @@ returns c =
     let marks = c .before .before .before .before .before .before .before .before .before .before in
     let start = marks .before .before .before .before .before .before .before .before in
     let a = start .args in
-    settled-put (a .table .now) _ _ _ _ (a .slot) (viewOf (a .window)) (a .accepted) (a .bytes) (search needs)
+    settled-put (a .table .now) _ _ _ _ (a .slot) (viewOf (a .window)) (a .accepted) (a .bytes) (start .pre .0) (start .pre .1)
     (marks .before .before .before .before .write .ensures)
     (marks .write-marks .ensures)
     (c .before .before .before .before .before .before .write2 .ensures)
