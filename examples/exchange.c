@@ -140,10 +140,28 @@ static int turbine_hall(uint8_t *gateway)
     return arrives(gateway, &shortened) != CRISP_OTHER_SUITE || arrives(gateway, &packet) != CRISP_DONE || lists(gateway, a.slot) != CRISP_DONE;
 }
 
-int main(void)
+/* Three messages: the second arrives first and once more later, and behind them a forged one. An engineer reads off the listing that one message came a
+ * second time and that one was not made with the key. Neither has changed anything but its counter; a counter that grows from one listing to the next is
+ * worth a look. */
+static int first_day(uint8_t *gateway, size_t slot, struct crisp_sender *sender, struct packet packets[3])
 {
     static const char *const readings[] = {"17.3 GJ", "17.9 GJ", "18.4 GJ"};
-    static struct packet packets[3], forged;
+    static struct packet forged;
+    for (int i = 0; i < 3; i++)
+        if (sends(sender, readings[i], &packets[i]) != CRISP_DONE) return 1;
+    int order[] = {1, 0, 1, 2}, expected[] = {CRISP_DONE, CRISP_DONE, CRISP_REPEATED, CRISP_DONE};
+    for (int i = 0; i < 4; i++)
+        if (arrives(gateway, &packets[order[i]]) != expected[i]) return 1;
+    forged = packets[2];
+    forged.bytes[20] ^= 1;
+    forged.bytes[9] += 1;               /* another number, and a check value that cannot be right */
+    if (arrives(gateway, &forged) != CRISP_WRONG_ICV || lists(gateway, slot) != CRISP_DONE) return 1;
+    return listed("\nreplays=", 10) != 1 || listed("\nforged=", 10) != 1;
+}
+
+int main(void)
+{
+    static struct packet packets[3];
     struct crisp_sender sender = {.flag = 1, .keyid_len = sizeof keyid, .source_len = sizeof source - 1, .suite = CRISP_MAGMA_CTR, .edition = 2};
     memcpy(sender.keyid, keyid, sizeof keyid);
     memcpy(sender.source, source, sizeof source - 1);
@@ -152,20 +170,7 @@ int main(void)
     struct crisp_answer a = installs(table, 0);
     if (a.reply != CRISP_DONE) return 1;
     size_t slot = a.slot;
-
-    for (int i = 0; i < 3; i++)
-        if (sends(&sender, readings[i], &packets[i]) != CRISP_DONE) return 1;
-    int order[] = {1, 0, 1, 2}, expected[] = {CRISP_DONE, CRISP_DONE, CRISP_REPEATED, CRISP_DONE};
-    for (int i = 0; i < 4; i++)
-        if (arrives(table, &packets[order[i]]) != expected[i]) return 1;
-    forged = packets[2];
-    forged.bytes[20] ^= 1;
-    forged.bytes[9] += 1;               /* another number, and a check value that cannot be right */
-    if (arrives(table, &forged) != CRISP_WRONG_ICV || lists(table, slot) != CRISP_DONE) return 1;
-
-    /* an engineer reads off it that one message came a second time and that one was not made with the key. Neither has changed anything but its counter;
-     * a counter that grows from one listing to the next is worth a look */
-    if (listed("\nreplays=", 10) != 1 || listed("\nforged=", 10) != 1) return 1;
+    if (first_day(table, slot, &sender, packets)) return 1;
 
     /* the listing is from after the last arrival; by an older one, or by none, messages would pass once more */
     if (restarts(table)) return 1;

@@ -32,9 +32,10 @@ extern "C" {
 /* The interface's version, 100 times the major one plus the minor one: the first is raised where a call of before has to be written anew or means
  * something else, the second where something was added.
  *
- * Version 4.0 brought the counters of what is turned away. No call has to be written anew, but two mean something else. crisp_receive writes to the
- * table where it refuses with 9, 10 or 11: whoever saves a table after an accepted message only, saves counters that are older. And a listing has two
- * lines more: one that was printed by version 3.3 or earlier is refused by crisp_load with 21, until `replays=0` and `forged=0` are put at its end. */
+ * Version 4.0 brought the counters of what is turned away. No call has to be written anew, but three mean something else. crisp_receive writes to the
+ * table where it refuses with 9, 10 or 11: whoever saves a table after an accepted message only, saves counters that are older. crisp_listing writes
+ * two lines more, and crisp_load asks for them: a listing that was printed by version 3.3 or earlier is refused with 21, until `replays=0` and
+ * `forged=0` are put at its end. */
 #define CRISP_VERSION 400
 
 /* The version of the two layouts, the table's and the record's, raised where a place moves or gets another meaning. Keep it beside a saved table or
@@ -289,8 +290,8 @@ struct crisp_answer crisp_change(uint8_t table[CRISP_AT_LEAST CRISP_TABLE], size
  *
  * What is turned away is counted in the entry that the message leads to: 9 and 10 add 1 to its `replays`, 11 adds 1 to its `forged`, up to
  * CRISP_COUNTED, where a counter stays. That is all that they change. No other refusal counts or changes anything, not 7 and 8, nor 1, whatever the
- * message would have met with enough room; and an accepted message leaves both counters as they are. crisp_listing shows them, and says below what they
- * tell.
+ * message would have met with enough room; and an accepted message leaves both counters as they are. crisp_listing shows them; what they tell is said
+ * there.
  *
  * Save the table before the payload is used, and in the same file what is to become of the payload. After a restart, a table older than what was
  * used takes the same message as new; and one that was saved without the payload refuses it as repeated. examples/kept.c among the sources does

@@ -94,19 +94,22 @@ static uint64_t counter(const uint8_t *of, size_t slot, size_t place)
     return x;
 }
 
-/* all counters together have grown by so many replays and so many that were forged, or one of them has come to its limit */
+/* all counters of a kind together have grown by so many replays, or so many that were forged; by no more, where one of them has come to its limit */
 static void counts(uint64_t replays, uint64_t forged)
 {
     uint64_t grown[2] = {0, 0};
-    int limit = 0;
+    int limit[2] = {0, 0};
     for (size_t slot = 0; slot < CRISP_SLOTS; slot++)
         for (int which = 0; which < 2; which++) {
             size_t place = which ? FORGED : REPLAYS;
             grown[which] += counter(table, slot, place) - counter(table_before, slot, place);
-            limit |= counter(table, slot, place) == CRISP_COUNTED;
+            limit[which] |= counter(table, slot, place) == CRISP_COUNTED;
         }
-    if (limit ? grown[0] > replays || grown[1] > forged : grown[0] != replays || grown[1] != forged) differs("the number of arrivals that were counted");
-    counted[0] += replays, counted[1] += forged, at_limit += limit && replays + forged > 0;
+    uint64_t expected[2] = {replays, forged};
+    for (int which = 0; which < 2; which++) {
+        if (limit[which] ? grown[which] > expected[which] : grown[which] != expected[which]) differs("the number of arrivals that were counted");
+        counted[which] += expected[which], at_limit += limit[which] && expected[which] > 0;
+    }
 }
 
 /* whether all else is as it was */
@@ -333,7 +336,7 @@ int main(int argc, char **argv)
         if (replies[r]) printf("  %d: %llu", r, (unsigned long long)replies[r]);
     printf("\ncounted  replays: %llu  forged: %llu  at the limit: %llu\n", (unsigned long long)counted[0], (unsigned long long)counted[1],
            (unsigned long long)at_limit);
-    missing += !counted[0] + !counted[1] + !at_limit;
+    if (!counted[0] || !counted[1] || !at_limit) printf("one of these was never met\n"), missing++;
     for (int r = 0; r <= 20; r++)
         if (!replies[r] && (r <= 11 || r >= 17)) printf("reply %d was never given\n", r), missing++;
     printf("captures: %llu reports in sweeps and %llu in %llu random sequences, %llu places, no difference\n", (unsigned long long)swept,

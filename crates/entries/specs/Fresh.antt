@@ -1,5 +1,5 @@
 -- A fresh entry's slot (01, "Replies": "so do an installed entry's places past its KeyId and identifier" hold zeros only; "starts fresh"; 02, No. 2:
--- "Install must take a start number, .. and the entry keeps it"; No. 4: "Key data gets an edition"; both counters begin with 0).
+-- "Install must take a start number, .. and the entry keeps it"; No. 4: "Key data gets an edition"; No. 8, whose counters begin with 0).
 use mathlib.Core.List.{List, _++_}
 use Prim.Native.Nat.{ℕ, _-_}
 use lib.ListN.{length, replicate}

@@ -1,7 +1,6 @@
--- 01's listing of an entry ("Numbers on both sides of the edge"): "Each line ends with a line feed. keyid, source,
--- highest, marks are lower-case hex, two digits a byte, highest 12 digits and marks 64; the rest is decimal." 02, No. 2: "The listing gets `start=`
--- in decimal after `size=`." No. 4: "The listing gets `edition=` after `suite=`." No. 8: "The
--- listing ends with `replays=` and `forged=`, in decimal".
+-- 01's listing of an entry ("Numbers on both sides of the edge"): "Each line ends with a line feed. keyid, source, highest, marks are lower-case hex, two
+-- digits a byte, highest 12 digits and marks 64; the rest is decimal." 02, No. 2: "The listing gets `start=` in decimal after `size=`." No. 4: "The listing
+-- gets `edition=` after `suite=`." No. 8: "The listing ends with `replays=` and `forged=`, in decimal".
 use mathlib.Core.Path.{_≡_}
 use mathlib.Core.Bool.{cond}
 use mathlib.Core.List.{List, [], _∷_, _++_}

@@ -1,7 +1,7 @@
 -- Loading a listing (02, No. 6): "The entry with that slot, flag, KeyId, source, suite, edition, size and start must stand in the table with accepted 0;
 -- it then takes the listed highest, marks and totals. .. Refusals: 21 text not in this form; 22 no such entry with accepted 0; 23 the loaded record
--- would be damaged; in that order, the table unchanged." No. 7: "Done, it and a load return the slot as install does." No. 8: "loading
--- takes them over", the listed counters.
+-- would be damaged; in that order, the table unchanged." No. 7: "Done, it and a load return the slot as install does." No. 8, of the listed counters:
+-- "loading takes them over".
 use mathlib.Core.Bool.{Bool, cond, _&&_}
 use mathlib.Core.List.{List}
 use mathlib.Core.Option.{Option, none, some}

@@ -19,8 +19,8 @@ use Rattle.format.specs.declared.header.Parsed.the-variants.{Read, BadLength, B
 use Rattle.slots.specs.Table.{slotOf, entryOf}
 use Rattle.gateway.specs.Receive.{Received}
 use Rattle.gateway.proofs.Arrivals.{short-output}
-use Rattle.promises.specs.Calls.{Call, arrival, install, remove, change, load, OfBytes, called, after, run, results, Trace, lastOf}
-use Rattle.promises.specs.Counted.{Beginning, Told, apart, below, used, forged, new, isReplay, isForgery, howMany, isOf, toldOf, told, toldFrom, toldBy}
+use Rattle.promises.specs.Calls.{Call, arrival, install, remove, change, load, OfBytes, called, run, results, Trace, lastOf}
+use Rattle.promises.specs.Counted.{Beginning, Told, apart, below, used, forged, new, isReplay, isForgery, howMany, isOf, toldOf, told, toldFrom}
 use Rattle.promises.specs.History.{Begins, GoesOn, Unended, replyTo, isMine, isAnswered, answeredIn, nineOrTen, eleven}
 use Rattle.promises.proofs.History.{history}
 use Rattle.promises.proofs.Runs.{begun}
