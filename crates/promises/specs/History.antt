@@ -1,7 +1,7 @@
 -- Demand 3, of a slot of a table: "Exactly the counted messages are handed out, and after each call the entry's two totals are how many
 -- different numbers were counted and the sum of their payload lengths"; and its two counters how many arrivals it refused with 9 or 10, and with
--- 11, cut at their limit (02, No. 8). A history begins with any undamaged entry, a fresh one or one that
--- has a past, and goes on until the entry is removed or changed, or takes a listing.
+-- 11, cut at their limit (02, No. 8). A history begins with any undamaged entry, a fresh one or one that has a past, and goes on until the entry is
+-- removed or changed, or takes a listing.
 use mathlib.Core.Path.{_≡_}
 use mathlib.Core.Bool.{Bool, true, false, cond, _&&_, _||_}
 use mathlib.Core.List.{List, [], _∷_}
@@ -136,7 +136,8 @@ isMine k BadVersion message source = false
 isMine k BadSuite message source = false
 isMine k TooShort message source = false
 
--- how many arrivals of the entry, of those that calls were, came back with a reply that passes a test; and the two tests of the counters
+-- whether a call is an arrival of the entry that came back with a reply that passes a test; how many of several calls are; and the tests of the two
+-- counters
 abbrev pub isAnswered : KeyData → (ℕ → Bool) → Call → Answer → Bool
 isAnswered k test (arrival message source out) a = isMine k (readOf message) message source && test (a .reply)
 isAnswered k test (install other f) a = false
