@@ -2,7 +2,7 @@
  * them for CRISP_LAYOUT N: whoever moves a field or gives it another meaning raises the number and stores a new file, so that saved bytes of before are
  * told apart. tests/layout.2 is from version 3, which had no counters.
  *
- *   layout counters    prints the slot with its counters in use too, each of their low bytes another one; tests/layout.2.counters has it
+ *   layout counters    prints the slot with its counters in use too, each in four bytes that differ; tests/layout.2.counters has it
  *   layout before      takes a slot of layout 1 from standard input, as it was printed, and a record where there is one. Both must be refused as they
  *                      are; with edition 2 put in, it prints the entry's listing and the record's next message, which the entry must take
  *   layout saved       takes a slot and a record of this layout from standard input, as they were printed, and goes on with them as they are: it prints
