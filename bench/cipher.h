@@ -1,4 +1,4 @@
-/* cipher.h: the functions of libcipher_c.a (`rt staticlib cipher_c`): the cipher, its modes and the derived keys, each by itself, to be measured and
+/* cipher.h: the functions of libcipher_c.a (`rt lib` in crates/cipher_c): the cipher, its modes and the derived keys, each by itself, to be measured and
  * compared. A key is eight words, the first the key's first four bytes. */
 #ifndef CIPHER_H
 #define CIPHER_H

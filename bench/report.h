@@ -1,4 +1,4 @@
-/* report.h: the function of libreport_c.a (`rt staticlib report_c`): a capture read on a table, with the lines that document 02 prints, to be compared
+/* report.h: the function of libreport_c.a (`rt lib` in crates/report_c): a capture read on a table, with the lines that document 02 prints, to be compared
  * and measured. */
 #ifndef REPORT_H
 #define REPORT_H

@@ -3,6 +3,7 @@
 #   X86      what runs its programs ('' on an x86-64 machine, else the emulator)
 #   BUILD    the folder for what is built     LIB    where the archives are
 #   CRISP, BARE    the compiler's words for the library and for the one for bare metal, by pkg-config
+#   CIPHER, REPORT    the archives of cipher_c and report_c
 
 # need PACKAGE COMMAND..: installs Debian's package where the command does not succeed
 need() {
@@ -30,7 +31,8 @@ LIB=$BUILD/prefix/lib
 mkdir -p "$BUILD"
 ./install "$BUILD/prefix" || exit 2
 for crate in cipher_c report_c; do
-    rt staticlib $crate >"$BUILD/$crate.log" 2>&1 || { tail -n 5 "$BUILD/$crate.log"; echo "$crate is not proved"; exit 2; }
+    (cd crates/$crate && rt lib --cpu x86-64) >"$BUILD/$crate.log" 2>&1 || { grep -E 'error|not proved|^rt: ' "$BUILD/$crate.log" | tail -n 5; echo "$crate is not proved"; exit 2; }
 done
+CIPHER=crates/cipher_c/out/libcipher_c.a REPORT=crates/report_c/out/libreport_c.a
 CRISP=$(PKG_CONFIG_LIBDIR=$LIB/pkgconfig pkg-config --cflags --libs crisp) || exit 2
 BARE=$(PKG_CONFIG_LIBDIR=$LIB/pkgconfig pkg-config --cflags --libs crisp-bare) || exit 2

@@ -1,4 +1,6 @@
 // What a public function answers: 01's four numbers, its replies by name, and the room that an output must have.
+#![tactic(auto)]
+
 ghost use Rattle.std.specs.Prelude.{◌≡◌};
 ghost use Rattle.answers.specs.Answers.{refused};
 

@@ -1,4 +1,5 @@
 // Appendix A of 000 as constants, for the programs: its key data, its payload and its two whole messages.
+#![tactic(auto)]
 
 // What A.1 and A.2 share: the base key, the source, and the payload.
 pub const KEY: [u8; 32] =

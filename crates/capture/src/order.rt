@@ -30,7 +30,7 @@ const HIGH_FIRST: u64 = 1;
 const LOW_FIRST: u64 = 2;
 
 // Which byte of a file's numbers comes first; unknown where the header is not that of a capture that can be read.
-#[derive(Drop)]
+#[derive(Clone, Copy)]
 pub enum Order {
     HighFirst,
     LowFirst,

@@ -19,7 +19,7 @@ pub const END: u64 = 255;
 // next record begins; or nothing that can be read (17 to 20, or END), and then source and message have no bytes. After 17, 18 and END the next
 // place is the file's end.
 #[repr(C)]
-#[derive(Drop)]
+#[derive(Clone, Copy)]
 pub struct Record {
     pub reply: u64,
     pub source: usize,

@@ -1,5 +1,7 @@
 // The cipher, its modes and the derived keys for C, each by itself: what the benchmark measures and what is compared with another implementation.
 // bench/cipher.h declares them. Firmware links crisp_c and not this.
+#![tactic(auto)]
+
 ghost use Rattle.std.specs.Prelude.{◌≡◌, cond, leb, length};
 ghost use Rattle.octets.specs.Octets.{put};
 ghost use Rattle.magma.specs.Magma.{encrypted};
@@ -71,8 +73,8 @@ pub extern "C" fn cipher_keys_1(
     source: &[u8; 12],
     seqnum: u64,
 ) -> BothKeys
-    ensures check_value { result.check ≡ check_key base.now MagmaCtr edition source.now seqnum }
-    ensures cipher_value { result.cipher ≡ cipher_key base.now MagmaCtr edition source.now seqnum }
+    ensures check { result.check ≡ check_key base.now MagmaCtr edition source.now seqnum }
+    ensures cipher { result.cipher ≡ cipher_key base.now MagmaCtr edition source.now seqnum }
 {
     let subkeys = modes::subkeys_of(base);
     let suite = Suite::MagmaCtr;

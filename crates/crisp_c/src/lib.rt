@@ -1,5 +1,7 @@
 // The gateway, the sender and the records of captures for C: nine functions over the proved ones, with the same contracts. include/crisp.h declares
 // and documents them.
+#![tactic(auto)]
+
 ghost use Rattle.std.specs.Prelude.{◌≡◌};
 ghost use Rattle.format.specs.KeyData.{handed_in};
 ghost use Rattle.entries.specs.Change.{changed};

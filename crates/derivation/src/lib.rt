@@ -1,4 +1,6 @@
 // Derived keys: what a base key, the source, the suite, the edition and SeqNum make.
+#![tactic(auto)]
+
 ghost use Rattle.std.specs.Prelude.{◌∷◌, ◌≡◌, ◌+◌, ◌<◌, ◌≤◌, length, drop};
 ghost use Rattle.octets.specs.Octets.{put};
 ghost use Rattle.magma.specs.Magma.{encrypted};
@@ -11,7 +13,7 @@ use format::suite::Suite;
 use modes::Subkeys;
 
 // What a key is derived for: the suite, the edition and the number of a message.
-#[derive(Drop)]
+#[derive(Clone, Copy)]
 pub struct Purpose {
     pub suite: Suite,
     pub edition: u8,

@@ -1,4 +1,6 @@
 // Entries put into the table that a caller lends, changed there, and taken out of it.
+#![tactic(auto)]
+
 ghost use Rattle.format.specs.KeyData.{handed_in};
 ghost use Rattle.entries.specs.Change.{changed};
 ghost use Rattle.entries.specs.Install.{IsLeft, installed, removed};

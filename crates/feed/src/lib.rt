@@ -1,4 +1,6 @@
 // A capture read on a table: each record that can be read is an arrival, in the file's order, and each record has its line of text.
+#![tactic(auto)]
+
 ghost use Rattle.std.specs.Prelude.{true, ◌≡◌, ◌+◌, ◌-◌, ◌*◌, ◌≤◌, ◌<◌, length};
 ghost use Rattle.octets.specs.Octets.{put};
 ghost use Rattle.gateway.specs.Receive.{received};
@@ -84,8 +86,8 @@ fn take(
     out: &mut [u8],
     at: usize,
 ) -> usize
-    requires source_le_message { (found.source ≤ found.message) × (found.message ≤ found.next) × (found.next ≤ length file.now) }
-    requires number_bound { (number < 10000) × (found.reply < 100) × (at + 48 + 2 * (found.next - found.message) ≤ length out.old) }
+    requires record_in_file { (found.source ≤ found.message) × (found.message ≤ found.next) × (found.next ≤ length file.now) }
+    requires room { (number < 10000) × (found.reply < 100) × (at + 48 + 2 * (found.next - found.message) ≤ length out.old) }
     ensures { IsTold (turn_of table.old (item_of file.now found)) number at out.old result table.new out.new }
 {
     let source = found.source;

@@ -8,7 +8,7 @@ use text::reading::{Hex, Number, Span};
 use window::{Counters, Frame};
 
 // Which entry it is.
-#[derive(Drop)]
+#[derive(Clone, Copy)]
 pub struct NamedLines {
     pub slot: u64,
     pub flag: u64,
@@ -17,7 +17,7 @@ pub struct NamedLines {
 }
 
 // What else an install settled.
-#[derive(Drop)]
+#[derive(Clone, Copy)]
 pub struct TermLines {
     pub suite: u64,
     pub edition: u64,
@@ -25,7 +25,7 @@ pub struct TermLines {
 }
 
 // What the accepted messages moved.
-#[derive(Drop)]
+#[derive(Clone, Copy)]
 pub struct MovedLines {
     pub highest: u64,
     pub marks: Hex,
@@ -46,7 +46,7 @@ pub enum Terms {
     Bad,
 }
 
-#[derive(Drop)]
+#[derive(Clone, Copy)]
 pub enum Settled {
     Is(NamedLines, TermLines, usize),
     Bad,

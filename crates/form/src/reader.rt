@@ -1,4 +1,4 @@
-// A reader: the text of a listing, and the place that it has reached. Its functions are thin, over those of `lines`, and proved by hand.
+// A reader: the text of a listing, and the place that it has reached. Its functions are thin, over those of `lines`.
 ghost use Rattle.std.specs.Prelude.{◌≡◌, drop};
 ghost use Rattle.form.specs.Form.{read_settled, read_arrivals};
 ghost use Rattle.form.specs.Found.{FindsSettled, FindsArrivals, LinesFound};
@@ -6,7 +6,7 @@ ghost use Rattle.form.specs.Found.{FindsSettled, FindsArrivals, LinesFound};
 use crate::lines;
 use crate::lines::{Arrivals, Settled};
 
-#[derive(Drop)]
+#[derive(Clone, Copy)]
 pub struct Reader<'a> {
     pub text: &'a [u8],
     pub at: usize,

@@ -24,7 +24,7 @@ pub const FIXED: usize = 9;
 // The value of ExternalKeyIdFlag's bit, above the 15 bits of Version.
 const FLAG: u64 = 32768;
 
-#[derive(Drop)]
+#[derive(Clone, Copy)]
 pub struct Header {
     pub flag: u8,
     pub suite: Suite,

@@ -24,7 +24,7 @@ pub const MSB: u8 = 2;
 
 // The numbers of key data: ExternalKeyIdFlag, the suite's number and the edition. Its bytes are lent beside them.
 #[repr(C)]
-#[derive(Drop)]
+#[derive(Clone, Copy)]
 pub struct Terms {
     pub flag: u8,
     pub suite: u8,

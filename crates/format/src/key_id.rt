@@ -3,7 +3,7 @@ ghost use Rattle.std.specs.Prelude.{◌≡◌, ◌+◌, ◌<◌};
 ghost use Rattle.format.specs.KeyId.{key_id_starting, length_of};
 
 // Long: so many bytes at the place `start`, behind the first.
-#[derive(Drop)]
+#[derive(Clone, Copy)]
 pub enum KeyId {
     Absent,
     Short(u8),

@@ -1,4 +1,6 @@
 // CRISP messages of version 0, as they are laid out: KeyIds, suites, key data, and the header. No cipher, no table.
+#![tactic(auto)]
+
 pub mod header; // header.rt: the header, read and written
 pub mod key_data; // key_data.rt: whether key data is sound
 pub mod key_id; // key_id.rt: kind and length of a KeyId

@@ -5,7 +5,7 @@ ghost use Rattle.format.specs.Suite.{suite_of, number_of, icv_length_of, enciphe
 use crate::key_data;
 
 // MagmaCtr is MAGMA-CTR-CMAC, MagmaNull is MAGMA-NULL-CMAC; the long ones are house suites, with an ICV of a whole block and numbers of their own.
-#[derive(Drop)]
+#[derive(Clone, Copy)]
 pub enum Suite {
     MagmaCtr,
     MagmaNull,

@@ -1,4 +1,6 @@
 // The receiver on a table that the caller lends.
+#![tactic(auto)]
+
 ghost use Rattle.gateway.specs.Receive.{IsReceived, received};
 
 use answers::Answer;

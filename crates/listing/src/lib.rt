@@ -1,4 +1,6 @@
 // The listing of an entry as text.
+#![tactic(auto)]
+
 ghost use Rattle.std.specs.Prelude.{true, ◌≡◌, ◌+◌, ◌≤◌, length};
 ghost use Rattle.octets.specs.Octets.{put};
 ghost use Rattle.answers.specs.Answers.{output_room};

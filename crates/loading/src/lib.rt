@@ -1,4 +1,6 @@
 // A listing loaded back: after a restart, an entry that has accepted nothing takes the window, the totals and the counters that its listing has.
+#![tactic(auto)]
+
 ghost use Rattle.entries.specs.Install.{IsLeft};
 ghost use Rattle.loading.specs.Load.{loaded};
 

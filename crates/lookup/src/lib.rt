@@ -1,4 +1,6 @@
 // Which slot of a table a message leads to, which other one has its name, and which is free.
+#![tactic(auto)]
+
 ghost use Rattle.std.specs.Prelude.{◌≡◌, ◌-◌, length};
 ghost use Rattle.slots.specs.Table.{slot_length, table_length, slot_count, slot_of};
 ghost use Rattle.lookup.specs.Lookup.{matches, first_from, leads_to, leads_elsewhere, first_free};
@@ -67,6 +69,7 @@ fn leads_from(table: &[u8], from: usize, flag: u8, keyid: &[u8], source: &[u8]) 
 }
 
 // Whether a slot has that flag and KeyId and, for flag 1, that source.
+#[tactic(auto, using(crate::proofs::Matching::any_source))]
 fn agrees(slot: &[u8], flag: u8, keyid: &[u8], source: &[u8]) -> bool
     requires { length slot.now ≡ slot_length }
     ensures { result ≡ matches flag keyid.now source.now slot.now }

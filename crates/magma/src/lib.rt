@@ -1,4 +1,6 @@
 // Magma, the cipher of GOST R 34.12-2015 with blocks of 64 bits. `specs/Magma.antt` says what it is.
+#![tactic(auto)]
+
 ghost use Rattle.std.specs.Prelude.{◌≡◌, ◌<◌, reverse, length};
 ghost use Rattle.magma.specs.Magma.{pi, nibble_for, substituted, turned, swapping, through, encrypted, key_words};
 

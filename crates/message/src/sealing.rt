@@ -54,8 +54,8 @@ pub fn seal_under(
     out: &mut [u8],
 ) -> usize
     requires { (terms.flag < 2) × (length source.now ≤ 32) × (seqnum < 2 ^ 48) × (fixed_bytes + length keyid.now + length payload.now + icv_length_of suite ≤ length out.old) × (length payload.now ≤ 2 ^ 35) }
-    ensures by_index { (key : List ℕ) → key_words key ≡ base.now → result ≡ length (sealed suite (keyed terms keyid.now source.now key) seqnum payload.now) }
-    ensures by_index_2 { (key : List ℕ) → key_words key ≡ base.now → out.new ≡ put out.old 0 (sealed suite (keyed terms keyid.now source.now key) seqnum payload.now) }
+    ensures value { (key : List ℕ) → key_words key ≡ base.now → result ≡ length (sealed suite (keyed terms keyid.now source.now key) seqnum payload.now) }
+    ensures out_after { (key : List ℕ) → key_words key ≡ base.now → out.new ≡ put out.old 0 (sealed suite (keyed terms keyid.now source.now key) seqnum payload.now) }
 {
     let purpose = Purpose {
         suite,

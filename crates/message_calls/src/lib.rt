@@ -1,5 +1,7 @@
 // What a script's commands do with derived keys and whole messages, under a key and a source. Where the operands are such that there is no message or
 // payload, a function answers the length of the longest message, which is that of the output.
+#![tactic(auto)]
+
 use derivation::Purpose;
 use format::header;
 use format::header::{GREATEST, Parsed};
@@ -7,6 +9,8 @@ use format::key_data::Terms;
 use format::suite::{Numbered, Suite};
 use message::sealing;
 use message::sealing::Opened;
+use std::io;
+use std::io::Write;
 
 // The words of the key that is the first operand.
 pub fn key(operands: &[u8]) -> [u32; 8] {
@@ -111,15 +115,16 @@ fn open(operands: &[u8], edition: u8, message: &[u8], out: &mut [u8]) -> usize {
 }
 
 // The message of `seal`, from a place on. Answers twice the length of what it opens to, and 1 more if that is the payload.
-pub fn show_sealed(line: &[u8], operands: &[u8]) -> u64 {
+pub fn show_sealed(to: &mut impl Write, line: &[u8], operands: &[u8]) -> io::Result<u64> {
     let mut out = [0u8; GREATEST];
     let end = seal(operands, &mut out);
     let message = script::part(&out, 0, end);
     script::show(
+        to,
         line,
         script::part(message, script::number(operands, 8) as usize, end),
-    );
-    again(operands, message)
+    )?;
+    Ok(again(operands, message))
 }
 
 fn again(operands: &[u8], message: &[u8]) -> u64 {
@@ -133,7 +138,7 @@ fn again(operands: &[u8], message: &[u8]) -> u64 {
 }
 
 // Edition and message: the payload.
-pub fn show_opened(line: &[u8], operands: &[u8]) {
+pub fn show_opened(to: &mut impl Write, line: &[u8], operands: &[u8]) -> io::Result<()> {
     let mut out = [0xaau8; GREATEST];
     let length = open(
         operands,
@@ -141,5 +146,5 @@ pub fn show_opened(line: &[u8], operands: &[u8]) {
         script::operand(operands, 3),
         &mut out,
     );
-    script::show(line, script::part(&out, 0, length));
+    script::show(to, line, script::part(&out, 0, length))
 }

@@ -5,7 +5,7 @@ ghost use Rattle.magma.specs.Magma.{encrypted};
 ghost use Rattle.modes.specs.Modes.{doubled, first_subkey, second_subkey, before, chained, last_key, check_with, magma_check};
 
 // What the last block is combined with: `first` where it is full, `second` where it is shorter.
-#[derive(Drop)]
+#[derive(Clone, Copy)]
 pub struct Subkeys {
     pub first: u64,
     pub second: u64,

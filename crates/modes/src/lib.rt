@@ -1,5 +1,7 @@
 // Counter mode (ctr) and check value (cmac) of GOST R 34.13-2015, with Magma. `specs/Modes.antt` says what they are. A key is given as eight words;
 // `key_words` makes them of its bytes.
+#![tactic(auto)]
+
 mod cmac;
 mod ctr;
 

@@ -1,4 +1,6 @@
 // Bytes in slices: big-endian numbers read, lists compared, and numbers, bytes and zeros written at a place. `specs/Octets.antt` says what each means.
+#![tactic(auto)]
+
 ghost use Rattle.std.specs.Prelude.{◌≡◌, ◌+◌, ◌*◌, ◌^◌, ◌≤◌, ◌<◌, length, drop, replicate};
 ghost use Rattle.octets.specs.Octets.{big_endian, bytes_of, put, same};
 

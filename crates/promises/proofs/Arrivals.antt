@@ -33,7 +33,7 @@ use Rattle.lookup.specs.Lookup.{matches, leads_to}
 use Rattle.lookup.specs.declared.Found.TheVariants.{At}
 use Rattle.lookup.proofs.Firsts.{first_same, leads_small, leads_matches}
 use Rattle.lookup.proofs.Matching.{match_facts, same_matches}
-use Rattle.gateway.specs.Receive.{Received, received, led, handed_out, counter_of}
+use Rattle.gateway.specs.Receive.{Received, received, handed_out, counter_of}
 use Rattle.gateway.proofs.Arrivals.{Led, counter_within}
 use Rattle.gateway.proofs.Cascade.{of_received}
 use Rattle.promises.specs.Calls.{Call, arrival, install, remove, change, load, called, after, run, results}
@@ -338,7 +338,7 @@ spared b a {t} {past} now met (arrival m source out ∷ cs) all =
           let y : Message = record { number = q.seqnum; payload = q.length } in
           let counted = counted_told (told b past call) y (sym next.gives ∙ handed_at a.slot t m source out done at) in
           true≢false (sym (rw same at met) ∙ (counted_new b past call y counted).uncounted),
-      spared b a next.stands (stays_in b a.seqnum past met (call ∷ [])) cs all.1,
+      spared b a {t = after t call} next.stands (stays_in b a.seqnum past met (call ∷ [])) cs all.1,
     )
 spared b a now met (install k f ∷ cs) all = absurd all.0
 spared b a now met (remove j ∷ cs) all = absurd all.0

@@ -23,7 +23,7 @@ use Rattle.format.proofs.Room.{read_room}
 use Rattle.message.specs.Sealing.{right}
 use Rattle.slots.specs.Table.{slot_of, entry_of}
 use Rattle.gateway.specs.Receive.{received, reply_of}
-use Rattle.promises.specs.Calls.{Call, arrival, install, remove, change, load, called}
+use Rattle.promises.specs.Calls.{Call, arrival, install, remove, change, load, called, after}
 use Rattle.promises.specs.Cases.{Step, replied_to, entry_after, Turns, goes, Follows, Like, Row}
 use Rattle.promises.specs.Counted.{Beginning, Message, Told, is_below, is_used, is_of, tested, told, is_genuine}
 use Rattle.promises.specs.History.{Begins, entry_by, reply_to}
@@ -121,7 +121,7 @@ module _ {b : Beginning} {i : ℕ} where
       let both : (replied && floor) ≡ true = and_left (replied && floor) (goes next ss accepted marks) g in
       let alike : Like (entry_of (slot_of (received t m source out).table i)) next =
       rw (c.1.leaves, number) (alike_after s.number c.0 0 l) in
-      let rest = goes_on next (step now (arrival m source out) f.0 refl).stands alike ss cs f.4 accepted marks (and_right (replied && floor) (goes next ss accepted marks) g) in
+      let rest = goes_on {t = after t (arrival m source out)} next (step now (arrival m source out) f.0 refl).stands alike ss cs f.4 accepted marks (and_right (replied && floor) (goes next ss accepted marks) g) in
       record {
         replies =
             ap₂ (λ (n : ℕ) (ns : List ℕ). n ∷ ns)

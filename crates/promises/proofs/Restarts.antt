@@ -237,21 +237,21 @@ module _ {b : Beginning} {i : ℕ} where
   -- so calls that go on in both leave them in step,
   in_step : {t u : List ℕ} {past : List Told} → InStep b i t u past → (es : List Call) → GoesOn i t es → GoesOn i u es → InStep b i (run t es) (run u es) (told_from b past es)
   in_step both [] p q = both
-  in_step both (c ∷ es) p q = in_step (both_step both c p.0 p.1 q.1) es p.2 q.2
+  in_step {t} {u} both (c ∷ es) p q = in_step {t = after t c} {u = after u c} (both_step both c p.0 p.1 q.1) es p.2 q.2
 
   -- and without a change of the slot they go on in the second as in the first
   goes_too : {t u : List ℕ} {past : List Told} → InStep b i t u past → (es : List Call) → Unchanged i es → GoesOn i t es → GoesOn i u es
   goes_too both [] other p = tt
-  goes_too both (c ∷ es) other p =
+  goes_too {t} {u} both (c ∷ es) other p =
       let go = ends_too both c other.0 p.1 in
-      (p.0, go, goes_too (both_step both c p.0 p.1 go) es other.1 p.2)
+      (p.0, go, goes_too {t = after t c} {u = after u c} (both_step both c p.0 p.1 go) es other.1 p.2)
 
   -- calls leave the bytes around window, totals and counters
   pub around_on : {t : List ℕ} {past : List Told} → Stands b i t past → (cs : List Call) → GoesOn i t cs → Around (slot_of t i) (slot_of (run t cs) i)
   around_on now [] goes = record { front = refl; rest = refl }
   around_on {t} {past} now (c ∷ cs) goes =
       let d = step now c goes.0 goes.1 in
-      let later = around_on d.stands cs goes.2 in
+      let later = around_on {t = after t c} d.stands cs goes.2 in
       let there = told_around_all (told b past c) (slot_of t i) (length_of_slot t i now.held.long (held_small now.held)) in
       record {
         front = later.front ∙ ap (take highest_at) d.leaves ∙ there.front;

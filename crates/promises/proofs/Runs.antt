@@ -54,7 +54,7 @@ begun {b} {i} {t} g =
 module _ {b : Beginning} {i : ℕ} where
   pub stands_on : {t : List ℕ} {past : List Told} → Stands b i t past → (cs : List Call) → GoesOn i t cs → Stands b i (run t cs) (told_from b past cs)
   stands_on now [] goes = now
-  stands_on now (c ∷ cs) goes = stands_on (step now c goes.0 goes.1).stands cs goes.2
+  stands_on {t} now (c ∷ cs) goes = stands_on {t = after t c} (step now c goes.0 goes.1).stands cs goes.2
 
   pub hands_on : {t : List ℕ} {past : List Told} → Stands b i t past → (cs : List Call) → GoesOn i t cs
       → handed_by i (messages past) cs (results t cs) ≡ messages (told_from b past cs)
@@ -63,7 +63,7 @@ module _ {b : Beginning} {i : ℕ} where
       let d = step now c goes.0 goes.1 in
       ap (λ (x : Handed). handed_by i (noted (messages past) x) cs (results (after t c) cs)) d.gives
       ∙ ap (λ (xs : List Message). handed_by i xs cs (results (after t c) cs)) (grown (told b past c) past)
-      ∙ hands_on d.stands cs goes.2
+      ∙ hands_on {t = after t c} d.stands cs goes.2
 
   pub accounts : {t : List ℕ} {past : List Told} → Stands b i t past → Accounts b i t past
   accounts {t} {past} now =

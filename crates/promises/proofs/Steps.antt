@@ -26,7 +26,7 @@ use Rattle.format.specs.declared.header.Parsed.TheVariants.{Read, BadLength, Bad
 use Rattle.format.proofs.Soundness.{sound_facts}
 use Rattle.format.proofs.Room.{read_room, payload_most, number_small}
 use Rattle.message.specs.Sealing.{right, opened}
-use Rattle.slots.specs.Table.{slot_of, cs_of, counters_of, entry_of, settled, restored, raised_in, replaced, empty_slot, slot_length, slot_count, occupied_at, key_data_of}
+use Rattle.slots.specs.Table.{slot_of, cs_of, counters_of, entry_of, restored, raised_in, replaced, empty_slot, slot_length, slot_count, occupied_at, key_data_of}
 use Rattle.slots.specs.Record.{undamaged}
 use Rattle.slots.proofs.Rewriting.{Rewritten, raised_rewritten, rewritten_slot}
 use Rattle.slots.proofs.Settled.{undamaged_fits, raised_replays, raised_forged, settled_rewritten, restored_rewritten, entry_settled}

@@ -19,7 +19,7 @@ use Rattle.format.specs.declared.header.Parsed.TheVariants.{Read, BadLength, Bad
 use Rattle.slots.specs.Table.{slot_of, entry_of}
 use Rattle.gateway.specs.Receive.{Received}
 use Rattle.gateway.proofs.Arrivals.{short_output}
-use Rattle.promises.specs.Calls.{Call, arrival, install, remove, change, load, OfBytes, called, run, results, Trace, last_of}
+use Rattle.promises.specs.Calls.{Call, arrival, install, remove, change, load, OfBytes, called, after, run, results, Trace, last_of}
 use Rattle.promises.specs.Counted.{Beginning, Told, apart, below, used, forged, new, is_replay, is_forgery, how_many, is_of, told_of, told, told_from}
 use Rattle.promises.specs.History.{Begins, GoesOn, Unended, reply_to, is_mine, is_answered, answered_in, nine_or_ten, eleven}
 use Rattle.promises.proofs.History.{history}
@@ -78,7 +78,7 @@ module _ {is : Told → Bool} {test : ℕ → Bool} (said : SaidBy is test) {b :
       → how_many is (told_from b past cs) ≡ how_many is past + answered_in b.keys test cs (results t cs)
   answered_on now [] goes = omega arith
   answered_on {t} {past} now (c ∷ cs) goes =
-      let rest = answered_on (step now c goes.0 goes.1).stands cs goes.2 in
+      let rest = answered_on {t = after t c} (step now c goes.0 goes.1).stands cs goes.2 in
       let first : ◌≡◌ {A = ℕ} (cond (is (told b past c)) 1 0) (cond (is_answered b.keys test c (called t c).answer) 1 0) = ap (λ (x : Bool). cond x 1 0) (answered_told now c goes.0) in
       omega (arith, rest, first)
 

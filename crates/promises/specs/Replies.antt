@@ -15,7 +15,7 @@ use Rattle.format.specs.declared.header.Parsed.TheVariants.{Read, BadLength, Bad
 use Rattle.format.specs.declared.suite.Suite.{Suite}
 use Rattle.format.specs.declared.suite.Numbered.{Numbered}
 use Rattle.format.specs.declared.suite.Numbered.TheVariants.{Known, Unknown}
-use Rattle.slots.specs.Table.{slot_of, occupied, cs_of, window_of, slot_count, key_data_of, is_held}
+use Rattle.slots.specs.Table.{slot_of, cs_of, window_of, slot_count, key_data_of, is_held}
 use Rattle.lookup.specs.Lookup.{leads_to, leads_elsewhere, first_free}
 use Rattle.slots.specs.Record.{undamaged}
 use Rattle.lookup.specs.declared.Found.{Found}

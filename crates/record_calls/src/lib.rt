@@ -1,19 +1,23 @@
 // What a script's commands do with a sender's record.
+#![tactic(auto)]
+
 ghost use Rattle.std.specs.Prelude.{◌≡◌, ◌≤◌, length};
 ghost use Rattle.answers.specs.Answers.{output_room};
 
 use answers::OUTPUT;
 use sender::{Keys, Protected, Sender};
+use std::io;
+use std::io::Write;
 
 // Flag, KeyId, source, suite, edition, key, number, payload, and by how many bytes the output falls short of 2,048. Shown is
 // 6 the reply, 7 the number after the call, 8 the message.
-pub fn run(command: usize, line: &[u8], operands: &[u8]) {
+pub fn run(to: &mut impl Write, command: usize, line: &[u8], operands: &[u8]) -> io::Result<()> {
     let mut out = [0u8; OUTPUT];
     let done = protect(operands, &mut out);
     match command {
-        6 => script::show_number(line, done.answer.reply),
-        7 => script::show_number(line, done.current),
-        _ => script::show(line, script::part(&out, 0, done.answer.length)),
+        6 => script::show_number(to, line, done.answer.reply),
+        7 => script::show_number(to, line, done.current),
+        _ => script::show(to, line, script::part(&out, 0, done.answer.length)),
     }
 }
 

@@ -1,16 +1,21 @@
 // Every reply met: calls on a table and on a sender's record, run from a script on standard input. The file `stdin` beside src/ is the script, and
 // `stdout` holds what it prints.
+#![tactic(auto)]
+
 mod receiving; // receiving.rt: calls on the table
 
-use libc::STDIN_FILENO;
 use slots::layout::TABLE;
+use std::io;
+use std::io::{BufWriter, Read, Write};
 
-fn main() {
-    let mut text = io::large_buffer();
-    let mut memory = io::large_buffer();
-    let list = list();
-    let length = io::read_full(STDIN_FILENO, &mut text);
-    run(&list, script::part(&text, 0, length), &mut memory);
+fn main(rt: HostRuntime) -> io::Result<()> {
+    let alloc = rt.alloc();
+    let mut text = Vec::new(alloc);
+    rt.reader().take(script::LONGEST).read_to_end(&mut text)?;
+    let mut memory = vec![in alloc; 0u8; script::MEMORY]?;
+    let mut out = BufWriter::new(alloc, io::writer(&rt))?;
+    run(&mut out, &list(), &text, &mut memory)?;
+    out.flush()
 }
 
 // The commands, and how many bytes their operands have. Numbers have 8.
@@ -19,32 +24,40 @@ fn list() -> [u8; 110] {
 }
 
 // Every line of the script is run, on a table that is empty at first.
-fn run(list: &[u8], text: &[u8], memory: &mut [u8]) {
+fn run(to: &mut impl Write, list: &[u8], text: &[u8], memory: &mut [u8]) -> io::Result<()> {
     let mut table = [0u8; TABLE];
-    let mut at: usize = 0;
-    while at < text.len() {
-        let end = script::until(text, at, b'\n');
-        let line = script::part(text, at, end);
-        let command = script::command(list, line, memory);
-        call(command, line, memory, &mut table);
-        at = end + 1;
+    for line in text.split(|byte| *byte == b'\n') {
+        let command = script::command(to, list, line, memory)?;
+        call(to, command, line, memory, &mut table)?;
     }
+    Ok(())
 }
 
 // The command of that number is run with its operands.
-fn call(command: usize, line: &[u8], operands: &[u8], table: &mut [u8; TABLE]) {
+fn call(
+    to: &mut impl Write,
+    command: usize,
+    line: &[u8],
+    operands: &[u8],
+    table: &mut [u8; TABLE],
+) -> io::Result<()> {
     match command {
-        6 | 7 | 8 => record_calls::run(command, line, operands),
-        _ => show(command, line, receiving::reply(command, operands, table)),
+        6 | 7 | 8 => record_calls::run(to, command, line, operands),
+        _ => show(
+            to,
+            command,
+            line,
+            receiving::reply(command, operands, table),
+        ),
     }
 }
 
-fn show(command: usize, line: &[u8], reply: u64) {
+fn show(to: &mut impl Write, command: usize, line: &[u8], reply: u64) -> io::Result<()> {
     if command < 3 {
-        script::show_number(line, reply);
-        return;
+        return script::show_number(to, line, reply);
     }
     if reply == 255 {
-        script::not_understood(line);
+        return script::not_understood(to, line);
     }
+    Ok(())
 }

@@ -1,4 +1,6 @@
 // The report of a capture, to be called from C by the tests and the benchmark: one function over the proved one, with the same contract.
+#![tactic(auto)]
+
 ghost use Rattle.feed.specs.Report.{IsReported, reported};
 
 use feed::Summary;

@@ -2,16 +2,23 @@
 use crate::operands::{digit, operand, read};
 use crate::output::not_understood;
 use crate::text::{name_end, part, until};
+use std::io;
+use std::io::Write;
 
 // The number of a line's command in a list, the first being 0, with its operands read into the memory. A command is listed with a space behind it, as
 // `name/lengths`: a digit for an operand of so many bytes, `k` for one of 32, `.` for any. The answer is past the list where the line is empty or a
 // comment, and where it is not understood, which is then printed.
-pub fn command(list: &[u8], line: &[u8], memory: &mut [u8]) -> usize {
+pub fn command(
+    to: &mut impl Write,
+    list: &[u8],
+    line: &[u8],
+    memory: &mut [u8],
+) -> io::Result<usize> {
     if is_silent(line) {
-        return list.len();
+        return Ok(list.len());
     }
     let count = read(line, memory);
-    which(list, line, memory, count)
+    which(to, list, line, memory, count)
 }
 
 fn is_silent(line: &[u8]) -> bool {
@@ -21,7 +28,13 @@ fn is_silent(line: &[u8]) -> bool {
     line[0] == b'#'
 }
 
-fn which(list: &[u8], line: &[u8], operands: &[u8], count: usize) -> usize {
+fn which(
+    to: &mut impl Write,
+    list: &[u8],
+    line: &[u8],
+    operands: &[u8],
+    count: usize,
+) -> io::Result<usize> {
     let from = name_end(line) + 2;
     let name = part(line, from, until(line, from, b' '));
     let mut number: usize = 0;
@@ -29,13 +42,13 @@ fn which(list: &[u8], line: &[u8], operands: &[u8], count: usize) -> usize {
     while at < list.len() {
         let end = until(list, at, b' ');
         if is_called(part(list, at, end), name, operands, count) {
-            return number;
+            return Ok(number);
         }
         number += 1;
         at = end + 1;
     }
-    not_understood(line);
-    list.len()
+    not_understood(to, line)?;
+    Ok(list.len())
 }
 
 // Whether a listed command has that name and takes these operands.

@@ -5,12 +5,17 @@
 // The name is what stands before the last colon. Words are separated by one space. An operand is bytes in hex, two lower-case digits each; with
 // `*` and a decimal count behind them they are repeated until there are so many bytes, as in `a5*2034`; `-` is no bytes. What is expected is printed
 // as it stands. Empty lines and lines that begin with `#` say nothing.
+#![tactic(auto)]
+
 mod commands; // commands.rt: which command a line has
 mod operands; // operands.rt: the bytes that a line's operands write
 mod output; // output.rt: a line of output for a line of the script
 mod text; // text.rt: parts of a text
 
 pub use commands::command;
-pub use operands::{byte, number, operand, word};
+pub use operands::{MEMORY, byte, number, operand, word};
 pub use output::{not_understood, show, show_number};
 pub use text::{part, until};
+
+// How many bytes of its standard input a program reads as a script.
+pub const LONGEST: u64 = 65536;

@@ -7,6 +7,9 @@ use crate::text::{name_end, part, until};
 // Bytes of a cell.
 const CELL: usize = 4096;
 
+// Bytes of a memory with sixteen cells.
+pub const MEMORY: usize = 16 * CELL;
+
 // More than there is of anything: the answer where something cannot be read.
 const UNREADABLE: usize = 65536;
 

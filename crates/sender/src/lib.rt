@@ -1,5 +1,7 @@
 // The sender's record, and protect: the next message for a payload. Everything is by value: whoever keeps the record stores the number that
 // comes back.
+#![tactic(auto)]
+
 ghost use Rattle.std.specs.Prelude.{◌≡◌, true, ◌&&◌, ◌+◌, ◌^◌, ◌<◌, ◌≤◌, ltb, length};
 ghost use Rattle.format.specs.Header.{greatest_message, fixed_bytes};
 ghost use Rattle.answers.specs.Answers.{output_room};
@@ -16,7 +18,7 @@ use message::sealing;
 
 // Key data: the first keyid_len and source_len bytes of the two arrays count. The edition stands last, so that a field more moved no other.
 #[repr(C)]
-#[derive(Drop)]
+#[derive(Clone, Copy)]
 pub struct Keys {
     pub flag: u8,
     pub keyid: [u8; 128],
@@ -30,7 +32,7 @@ pub struct Keys {
 
 // The sender's record: key data, and the number of the last message.
 #[repr(C)]
-#[derive(Drop)]
+#[derive(Clone, Copy)]
 pub struct Sender {
     pub keys: Keys,
     pub current: u64,

@@ -1,6 +1,6 @@
 -- The table that a caller lends: 16 slots of 288 bytes. Where each part of an entry stands in its slot is said here and nowhere else in the
 -- definitions. Numbers are big-endian. A table of zeros is empty.
-use Rattle.std.specs.Prelude.{Bool, not, ◌&&◌, List, ◌++◌, ℕ, ◌+◌, ◌*◌, eqb, ltb, get_or, drop, replicate}
+use Rattle.std.specs.Prelude.{Bool, not, ◌&&◌, List, ◌++◌, ℕ, ◌*◌, eqb, ltb, get_or, drop, replicate}
 use Rattle.octets.specs.Octets.{big_endian, bytes_of, part, put}
 use Rattle.format.specs.KeyData.{KeyData}
 use Rattle.window.specs.Window.{View}

@@ -94,8 +94,8 @@ pub fn is_sound(slot: &[u8]) -> bool
 
 // The entry in a slot takes a message: a number that its window finds admissible, and a payload of so many bytes.
 pub fn take(table: &mut [u8], slot: usize, window: Window, number: u64, payload: usize)
-    requires table_len { (length table.old ≡ table_length) × (slot < slot_count) × (payload ≤ greatest_message) }
-    requires slot_value { (undamaged (slot_of table.old slot) ≡ true) × (view_of window ≡ window_of (slot_of table.old slot)) × (verdict_of (view_of window) number ≡ Admissible) }
+    requires place { (length table.old ≡ table_length) × (slot < slot_count) × (payload ≤ greatest_message) }
+    requires admissible { (undamaged (slot_of table.old slot) ≡ true) × (view_of window ≡ window_of (slot_of table.old slot)) × (verdict_of (view_of window) number ≡ Admissible) }
     ensures { table.new ≡ settled table.old slot (taken (entry_of (slot_of table.old slot)) number payload) }
 {
     let at = layout::SLOT * slot;

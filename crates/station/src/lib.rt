@@ -1,6 +1,8 @@
 // What the programs share: 01's entry, the line of an answer, and the lines of the entry.
-use libc::STDOUT_FILENO;
+#![tactic(auto)]
+
 use slots::layout::TABLE;
+use std::io;
 
 const FLAG: u8 = 1;
 
@@ -22,15 +24,13 @@ pub fn install(table: &mut [u8; TABLE]) {
 }
 
 // The line `answer=` is printed.
-pub fn print_answer(reply: u64) {
-    io::write_all(STDOUT_FILENO, b"answer=");
-    io::print_decimal(STDOUT_FILENO, reply);
-    io::write_all(STDOUT_FILENO, b"\n");
+pub fn print_answer(rt: &impl Print, reply: u64) -> io::Result<()> {
+    println!(rt; "answer={reply}")
 }
 
 // The entry's lines are printed, from a buffer that is lent for them.
-pub fn show(table: &[u8; TABLE], lines: &mut [u8]) {
+pub fn show(rt: &impl Print, table: &[u8; TABLE], lines: &mut [u8]) -> io::Result<()> {
     let answer = listing::listing(table, 0, lines);
     let length = answer.length;
-    io::write_all(STDOUT_FILENO, &lines[..length]);
+    rt.write_all(&lines[..length])
 }

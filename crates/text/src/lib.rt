@@ -1,4 +1,6 @@
 // Numbers and bytes as text: decimals, hex, and fields and lines of it, written here and read in `reading`.
+#![tactic(auto)]
+
 ghost use Rattle.std.specs.Prelude.{◌≡◌, ◌+◌, ◌*◌, ◌≤◌, ◌<◌, length};
 ghost use Rattle.octets.specs.Octets.{put};
 ghost use Rattle.text.specs.Text.{decimal_of, glyph, hex_of, decimal_field, decimal_line, hex_line};

@@ -13,7 +13,7 @@ const GREATEST: u64 = 18446744073709551615;
 const TENTH: u64 = 1844674407370955161;
 
 // Bytes in hex: where their digits begin, and how many bytes they write.
-#[derive(Drop)]
+#[derive(Clone, Copy)]
 pub struct Hex {
     pub at: usize,
     pub count: usize,

@@ -1,4 +1,6 @@
 // The window of accepted numbers, by value. `specs/Window.antt` says what it is; the crate `words` does its arithmetic.
+#![tactic(auto)]
+
 ghost use Rattle.std.specs.Prelude.{◌≡◌, true, ◌+◌, ◌-◌, ◌≤◌, min, max};
 ghost use Rattle.window.specs.declared.Verdict.TheVariants.{Admissible};
 ghost use Rattle.window.specs.Window.{view_of, floor_of, verdict_of, accept_of, count_of, sound_frame, undamaged_window};
@@ -18,21 +20,21 @@ const LONGEST_PAYLOAD: u64 = 2034;
 const COUNTER_LIMIT: u64 = 4294967295;
 
 // What an install settles of a window: its Size, and the start below which no number is taken.
-#[derive(Drop)]
+#[derive(Clone, Copy)]
 pub struct Frame {
     pub size: u64,
     pub start: u64,
 }
 
 // How many arrivals an entry refused: with 9 or 10, and with 11.
-#[derive(Drop)]
+#[derive(Clone, Copy)]
 pub struct Counters {
     pub replays: u64,
     pub forged: u64,
 }
 
 // The frame, the highest number, and the marks: four words, the lowest first. The bit of value 2^i of the whole stands for highest - i.
-#[derive(Drop)]
+#[derive(Clone, Copy)]
 pub struct Window {
     pub frame: Frame,
     pub highest: u64,
@@ -49,6 +51,7 @@ pub enum Verdict {
 
 impl Window {
     // The least number that is neither too old nor below the start.
+    #[tactic(auto, unfolding(crate::specs::Window::floor_at))]
     pub(crate) fn floor(self) -> u64
         ensures { result ≡ floor_of (view_of self) }
     {
@@ -133,6 +136,7 @@ impl Window {
     }
 
     // How many numbers stand from the floor to the highest: none where a start lies above it.
+    #[tactic(auto, unfolding(crate::specs::Window::floor_at))]
     fn reach(self) -> u64
         ensures { result ≡ self.highest + 1 - floor_of (view_of self) }
     {

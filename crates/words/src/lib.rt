@@ -1,4 +1,6 @@
 // A number of 256 bits as four words, the lowest first: moved up, cut, tested, and one bit of it read and set.
+#![tactic(auto)]
+
 ghost use Rattle.std.specs.Prelude.{◌≡◌, false, ◌+◌, ◌-◌, ◌*◌, ◌/◌, ◌%◌, ◌^◌, ◌≤◌, ◌<◌, min, ltb};
 ghost use Rattle.std.specs.Int.Count.{ones_in};
 ghost use Rattle.numbers.specs.Digits.{bit, from_digits};

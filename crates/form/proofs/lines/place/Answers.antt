@@ -1,0 +1,7 @@
+-- `form::lines::place` meets its contract: the place that the answer has. Assumes nothing.
+use Rattle.std.proofs.Common.{sym, ap}
+use Rattle.form.specs.Found.{place_of}
+use Rattle.form.proofs.lines.place.Goals as goal
+
+pub returns-in-Is : goal.returns-in-Is
+returns-in-Is c = sym (ap place_of c.in-Is.is)

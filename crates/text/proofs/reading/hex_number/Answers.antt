@@ -1,0 +1,48 @@
+use Rattle.std.proofs.Common.{◌≡◌, refl, sym, ◌∙◌, ℕ, ◌+◌, ◌*◌, ◌^◌, ◌<◌, add-one, arith, rules, get_or, drop}
+use Rattle.octets.specs.Octets.{big_endian}
+use Rattle.octets.proofs.BigEndian.{grown, word}
+use Rattle.text.specs.Found.{unhexed}
+use Rattle.text.proofs.Unhexed.{byte_there}
+use Rattle.text.proofs.reading.hex_number.Goals.{In-loop-i, After-pair}
+use Rattle.text.proofs.reading.hex_number.Goals as goal
+
+pub loop-i-init : goal.loop-i-init
+unfolding big_endian
+loop-i-init c = (search rules, search rules, refl)
+
+-- one byte more, whichever it is
+more : (c : In-loop-i) (y : ℕ) → y < 256 → c.loop-i.number * 256 + y < 2 ^ (8 * (c.loop-i.i + 1))
+more c y h = rw add-one (grown c.loop-i.i c.loop-i.number y c.loop-i.invariant.1 h)
+
+fits : (c : In-loop-i) (y : ℕ) → y < 256 → c.loop-i.number * 256 + y < 2 ^ 64
+fits c y h = word (c.loop-i.i + 1) _ (omega arith) (more c y h)
+
+pub overflow_mul-number : goal.overflow_mul-number
+overflow_mul-number c = omega (arith, fits c 0 (omega arith))
+
+-- the byte that was read
+is_byte : (c : After-pair) → let a = c.args in
+    c.pair.result ≡ get_or (unhexed a.n (drop a.at a.text.now)) c.loop-i.i 0
+is_byte c =
+    let a = c.args in
+    c.pair.ensures ∙ sym (byte_there a.text.now a.at a.n c.loop-i.i (omega arith))
+
+small : (c : After-pair) → c.pair.result < 256
+small c = rw (is_byte c) (c.requires.2 c.loop-i.i)
+
+pub overflow_add-number : goal.overflow_add-number
+overflow_add-number c = record { fits = fits (goal.at.overflow_add-number c).In-loop-i c.pair.result (small c) }
+
+pub loop-i-preserved : goal.loop-i-preserved
+unfolding big_endian
+loop-i-preserved c = (
+  search rules,
+  more (goal.at.loop-i-preserved c).In-loop-i c.pair.result (small c),
+  rw (add-one, c.loop-i.invariant.2, is_byte c),
+)
+
+pub returns : goal.returns
+returns c =
+    let l = c.loop-i in
+    let e : l.i ≡ c.args.n = omega arith in
+    (rw e at l.invariant.2, rw e at l.invariant.1)

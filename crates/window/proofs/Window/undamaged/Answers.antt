@@ -1,0 +1,31 @@
+-- `Window::undamaged` meets its contract: a return of false names the fact that fails, and the last test decides.
+use Rattle.std.proofs.Common.{◌≡◌, sym, ◌∙◌, arith, true}
+use Rattle.window.specs.Window.{view_of, sound_frame}
+use Rattle.window.proofs.Undamaged.{damaged, damaged_frame, damaged_outside, undamaged_at_zero, undamaged_by_mark}
+use Rattle.window.proofs.Window.undamaged.Goals.{Else-not-sound_frame}
+use Rattle.window.proofs.Window.undamaged.Goals as goal
+
+pub returns-then-not-sound_frame : goal.returns-then-not-sound_frame
+returns-then-not-sound_frame c = damaged_frame _ (sym c.sound_frame.ensures ∙ c.if-not-sound_frame.true)
+
+pub returns-then-self-gt-LAST : goal.returns-then-self-gt-LAST
+returns-then-self-gt-LAST c = damaged _ (λ u. omega (arith, u.high))
+
+pub returns-then-not-within : goal.returns-then-not-within
+returns-then-not-within c =
+    damaged_outside _ (rw c.reach.ensures at (sym c.within.ensures ∙ c.if-not-within.true))
+
+-- past the first test
+framed : (c : Else-not-sound_frame) → sound_frame (view_of c.args.self).frame ≡ true
+framed c = sym c.sound_frame.ensures ∙ c.if-not-sound_frame.false
+
+pub returns-then-self-eq0 : goal.returns-then-self-eq0
+returns-then-self-eq0 c =
+    undamaged_at_zero _ (framed (goal.at.returns-then-self-eq0 c).Else-not-sound_frame) (omega arith)
+    (rw c.reach.ensures at (sym c.within.ensures ∙ c.if-not-within.false)) c.if-self-eq0.true
+
+pub returns : goal.returns
+returns c =
+    c.has_bit.ensures
+    ∙ undamaged_by_mark _ (framed (goal.at.returns c).Else-not-sound_frame) (omega arith)
+    (rw c.reach.ensures at (sym c.within.ensures ∙ c.if-not-within.false)) c.if-self-eq0.false
