@@ -1,5 +1,5 @@
-/* cipher.h: the functions of libcipher_c.a (`rt lib` in crates/cipher_c): the cipher, its modes and the derived keys, each by itself, to be measured and
- * compared. A key is eight words, the first the key's first four bytes. */
+/* cipher.h: the functions of libcipher_c.a (`rt lib --cpu x86-64` in crates/cipher_c): the cipher, its modes and the derived keys,
+ * each by itself, to be measured and compared. A key is eight words, the first the key's first four bytes. */
 #ifndef CIPHER_H
 #define CIPHER_H
 #include <stdbool.h>

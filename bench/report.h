@@ -1,5 +1,5 @@
-/* report.h: the function of libreport_c.a (`rt lib` in crates/report_c): a capture read on a table, with the lines that document 02 prints, to be compared
- * and measured. */
+/* report.h: the function of libreport_c.a (`rt lib --cpu x86-64` in crates/report_c): a capture read on a table, with the lines
+ * that document 02 prints, to be compared and measured. */
 #ifndef REPORT_H
 #define REPORT_H
 #include <stdbool.h>

@@ -58,6 +58,11 @@ module _ (t : List ℕ) (r : Item) where
 pub told_same : {u v : Turn} {n at end : ℕ} {before table out : List ℕ} → u ≡ v → IsTold u n at before end table out → IsTold v n at before end table out
 told_same {u} {v} {n} {at} {end} {before} {table} {out} e w = subst (λ (x : Turn). IsTold x n at before end table out) e w
 
+-- a record that cannot be read, from what the code has tested and written
+pub unread_told : (t : List ℕ) (r : Item) (n at : ℕ) (before : List ℕ) {end : ℕ} {out : List ℕ} → (r.reply ≡ 0 → ⊥)
+    → end ≡ at + length (line_of n r.reply []) → out ≡ put before at (line_of n r.reply []) → IsTold (turn_of t r) n at before end t out
+unread_told t r n at before d e w = told_same (turn_nothing t r d) (record { ends = e; leaves = refl; writes = w })
+
 pub arrival_told : {q : Received} {a : Answer} {table brought : List ℕ} → IsReceived q a table brought → {n at end : ℕ} {before out : List ℕ}
     → end ≡ at + length (line_of n a.reply (take a.length brought)) → out ≡ put before at (line_of n a.reply (take a.length brought))
     → IsTold (brought_by q) n at before end table out

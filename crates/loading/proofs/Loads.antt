@@ -6,14 +6,25 @@ use mathlib.Core.List.{List}
 use mathlib.Core.Option.{none, some}
 use Prim.Native.Nat.{ℕ, ◌≤◌, ◌<◌}
 use borrow.Author.Tests.{lt-ltb, le-ltb}
+use lib.ListN.{length}
 use Rattle.answers.specs.Answers.{refused, bad_text, not_standing, would_be_damaged}
 use Rattle.answers.specs.declared.Answer.{Answer}
 use Rattle.format.specs.KeyData.{sound_of}
 use Rattle.window.specs.Entry.{undamaged_entry}
+use Rattle.window.specs.declared.Counters.{Counters}
 use Rattle.slots.specs.Table.{slot_of, key_data_of, restored, slot_count}
 use Rattle.slots.proofs.Slots.{lent, slot_lent}
 use Rattle.entries.specs.Install.{IsLeft, done_at}
 use Rattle.form.specs.Form.{Listing, listing_in}
+use Rattle.form.specs.Found.{LinesFound}
+use Rattle.form.specs.declared.lines.NamedLines.{NamedLines}
+use Rattle.form.specs.declared.lines.TermLines.{TermLines}
+use Rattle.form.specs.declared.lines.MovedLines.{MovedLines}
+use Rattle.form.specs.declared.lines.Settled.TheVariants as settled
+use Rattle.form.specs.declared.lines.Arrivals.TheVariants as arrivals
+use Rattle.form.specs.declared.reader.Lines.{Lines}
+use Rattle.form.proofs.Halves.{first_is, second_is}
+use Rattle.form.proofs.Stretches.{more_behind}
 use Rattle.loading.specs.Load.{stands, listed_entry, taken_up, loaded}
 
 -- ---- in the table
@@ -67,3 +78,12 @@ module _ (t text : List ℕ) where
   pub is_read : {l : Listing} → listing_in text ≡ some l → loaded t text ≡ taken_up t l
   unfolding loaded
   is_read e = rw e
+
+  -- lines that are all in their form, with more behind them, from what the reader found and the code has tested
+  pub more_refused : {r : Lines} {named : NamedLines} {terms : TermLines} {moved : MovedLines} {counters : Counters} {next end : ℕ} {a : Answer}
+      → LinesFound text r → r.settled ≡ settled.Is named terms next → r.arrivals ≡ arrivals.Is moved counters end
+      → (end ≡ length text → ⊥) → a ≡ refused bad_text → IsLeft (loaded t text) a t
+  more_refused {r} {named} {terms} {moved} {counters} {next} {end} found first second other e =
+      let head = first_is text r found named terms next first in
+      let tail = second_is text r found named terms next first moved counters end second in
+      not_read (more_behind text head.0 end tail.0 tail.1 other) e

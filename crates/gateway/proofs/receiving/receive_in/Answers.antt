@@ -4,15 +4,10 @@ use Rattle.answers.specs.Answers.{refused}
 use Rattle.format.specs.Header.{read_of, key_id_bytes}
 use Rattle.format.specs.declared.header.Parsed.TheVariants.{Read}
 use Rattle.lookup.specs.Lookup.{leads_to}
-use Rattle.gateway.proofs.Arrivals.{short_output, unread, nothing_found, arrived_is_received, leaves_same, leaves_kept}
+use Rattle.gateway.proofs.Arrivals.{unread, nothing_found, arrived_is_received, leaves_same, leaves_kept}
 use Rattle.lookup.proofs.Firsts.{leads_small}
 use Rattle.gateway.proofs.receiving.receive_in.Goals.{In-Read, After-find-found}
 use Rattle.gateway.proofs.receiving.receive_in.Goals as goal
-
-pub returns-then-out-lt-OUTPUT : goal.returns-then-out-lt-OUTPUT
-returns-then-out-lt-OUTPUT c =
-    let a = c.args in
-    leaves_kept (short_output a.table.now a.message.now a.source.now a.out.now c.if-out-lt-OUTPUT.true) c.refuse.ensures
 
 pub returns-in_default : goal.returns-in_default
 returns-in_default c =
@@ -47,7 +42,6 @@ arrive-requires c =
 
 pub returns : goal.returns
 returns c =
-    let a = c.args in
     leaves_same
     (arrived_is_received (record { room = omega arith; read = was_read (goal.at.returns c).In-Read; found = found (goal.at.returns c).After-find-found ∙ c.in-At.is }))
     c.arrive.ensures

@@ -7,8 +7,8 @@ use Rattle.entries.specs.Install.{Left}
 use Rattle.form.specs.Form.{read_settled, read_arrivals, listing_in}
 use Rattle.form.specs.Found.{settled_values, arrival_values, NamedWithin, MovedWithin}
 use Rattle.form.proofs.Halves.{first_bad, first_is, second_bad, second_is}
-use Rattle.loading.proofs.Loads.{not_read, is_read}
-use Rattle.form.proofs.Stretches.{no_settled, no_arrivals, more_behind, all_read}
+use Rattle.loading.proofs.Loads.{not_read, is_read, more_refused}
+use Rattle.form.proofs.Stretches.{no_settled, no_arrivals, all_read}
 use Rattle.loading.proofs.taking.load_in.Goals.{In-Is, In-Is-second}
 use Rattle.loading.proofs.taking.load_in.Goals as goal
 
@@ -41,11 +41,7 @@ second c =
     c.in-Is-second.moved c.in-Is-second.counters c.in-Is-second.end c.in-Is-second.is
 
 pub returns-then-end-text : goal.returns-then-end-text
-returns-then-end-text c =
-    not_read c.args.table.now c.args.text.now
-    (let s = second (goal.at.returns-then-end-text c).In-Is-second in
-    more_behind c.args.text.now (first (goal.at.returns-then-end-text c).In-Is).0 c.in-Is-second.end s.0 s.1
-    (λ e. omega (arith, c.if-end-text.true))) c.refuse-then-end-text.ensures
+returns-then-end-text c = search (rules, more_refused)
 
 pub take_up-requires : goal.take_up-requires
 take_up-requires c =
@@ -59,7 +55,7 @@ returns c =
       arrivals = arrival_values a.text.now c.in-Is-second.moved c.in-Is-second.counters;
     }) =
     all_read a.text.now (first (goal.at.returns c).In-Is).0 c.in-Is-second.end (second (goal.at.returns c).In-Is-second).0
-    (omega (arith, c.if-end-text.false)) in
+    (omega arith) in
     let is = is_read a.table.now a.text.now read in
     let t = c.take_up.ensures in
     record { answers = t.answers ∙ ap (λ (l : Left). l.answer) (sym is); leaves = t.leaves ∙ ap (λ (l : Left). l.table) (sym is) }

@@ -8,7 +8,6 @@ use Rattle.text.proofs.reading.may_follow.Goals as goal
 
 pub returns-then-not-is_digit : goal.returns-then-not-is_digit
 returns-then-not-is_digit c =
-    let a = c.args in
     let z = sym c.is_digit.ensures ∙ c.if-not-is_digit.true in
     sym (rw z)
 
