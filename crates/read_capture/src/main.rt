@@ -15,7 +15,7 @@ fn main(rt: HostRuntime) -> io::Result<()> {
     station::install(&mut table);
     let mut file = Vec::new(rt.alloc());
     rt.reader().take(ROOM).read_to_end(&mut file)?;
-    let mut text = vec![in rt.alloc(); 0u8; TEXT]?;
+    let mut text = [0u8; TEXT];
     show(&rt, &mut table, &file, &mut text)
 }
 

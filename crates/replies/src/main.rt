@@ -6,16 +6,13 @@ mod receiving; // receiving.rt: calls on the table
 
 use slots::layout::TABLE;
 use std::io;
-use std::io::{BufWriter, Read, Write};
+use std::io::{Read, Write};
 
 fn main(rt: HostRuntime) -> io::Result<()> {
-    let alloc = rt.alloc();
-    let mut text = Vec::new(alloc);
+    let mut text = Vec::new(rt.alloc());
     rt.reader().take(script::LONGEST).read_to_end(&mut text)?;
-    let mut memory = vec![in alloc; 0u8; script::MEMORY]?;
-    let mut out = BufWriter::new(alloc, io::writer(&rt))?;
-    run(&mut out, &list(), &text, &mut memory)?;
-    out.flush()
+    let mut memory = [0u8; script::MEMORY];
+    run(&mut io::writer(&rt), &list(), &text, &mut memory)
 }
 
 // The commands, and how many bytes their operands have. Numbers have 8.

@@ -3,24 +3,21 @@
 #![tactic(auto)]
 
 use std::io;
-use std::io::{BufWriter, Read, Write};
+use std::io::{Read, Write};
 
 mod cipher; // cipher.rt: Magma and its parts
 mod modes_of; // modes_of.rt: counter mode and check value
 
 fn main(rt: HostRuntime) -> io::Result<()> {
-    let alloc = rt.alloc();
-    let mut text = Vec::new(alloc);
+    let mut text = Vec::new(rt.alloc());
     rt.reader().take(script::LONGEST).read_to_end(&mut text)?;
-    let mut memory = vec![in alloc; 0u8; script::MEMORY]?;
-    let mut out = BufWriter::new(alloc, io::writer(&rt))?;
+    let mut memory = [0u8; script::MEMORY];
     run(
-        &mut out,
+        &mut io::writer(&rt),
         b"substitute/4 turn/44 round/48 key_word/k1 forward/k8 backward/k8 encrypt/k8 first_subkey/k second_subkey/k check_value/k. check_value_32/k. derived_block/k.1161 derived_next/k.1161 counter/k4.1 open/k.1. seal/k.1161..2 opened_length/ opened_same/",
         &text,
         &mut memory,
-    )?;
-    out.flush()
+    )
 }
 
 // Every line of the script is run, with a command of the list. What a sealed message gives when it is opened again is kept for the lines behind it.
