@@ -1,6 +1,9 @@
 -- Answers and refusals by name (01, "Replies": "Every refusal returns its number with length, slot and SeqNum all 0").
-use Rattle.std.specs.Prelude.{ℕ}
+use Rattle.std.specs.Prelude.{ℕ, Result, Ok, Err}
 use Rattle.answers.specs.declared.Answer.{Answer}
+use Rattle.answers.specs.declared.Done.{Done}
+use Rattle.answers.specs.declared.Refusal.{Refusal}
+use Rattle.answers.specs.declared.Refusal.TheVariants as refusal
 
 abbrev pub refused : ℕ → Answer
 refused reply = record { reply = reply; length = 0; slot = 0; seqnum = 0 }
@@ -106,3 +109,39 @@ not_standing = 22
 -- the loaded record would be damaged
 abbrev pub would_be_damaged : ℕ
 would_be_damaged = 23
+
+-- ---- by name: 01's number for each refusal
+
+abbrev pub refusal_number : Refusal → ℕ
+refusal_number refusal.OutputSmall = output_small
+refusal_number refusal.BadLength = bad_length
+refusal_number refusal.BadVersion = bad_version
+refusal_number refusal.BadSuite = bad_suite
+refusal_number refusal.TooShort = too_short
+refusal_number refusal.NoEntry = no_entry
+refusal_number refusal.Damaged = damaged
+refusal_number refusal.OtherSuite = other_suite
+refusal_number refusal.BelowFloor = below_floor
+refusal_number refusal.Repeated = repeated
+refusal_number refusal.WrongIcv = wrong_icv
+refusal_number refusal.NoNumber = no_number
+refusal_number refusal.Unsound = unsound
+refusal_number refusal.Twin = twin
+refusal_number refusal.Full = full
+refusal_number refusal.NoSlot = no_slot
+refusal_number refusal.BadCapture = bad_capture
+refusal_number refusal.CutShort = cut_short
+refusal_number refusal.LengthsDiffer = lengths_differ
+refusal_number refusal.Unreadable = unreadable
+refusal_number refusal.BadText = bad_text
+refusal_number refusal.NotStanding = not_standing
+refusal_number refusal.WouldBeDamaged = would_be_damaged
+
+-- done at a slot, with length and SeqNum 0
+abbrev pub at_slot : ℕ → Done
+at_slot i = record { length = 0; slot = i; seqnum = 0 }
+
+-- what C sees of an outcome: 0 and its values where it was done, else the refusal's number
+abbrev pub answer_of : Result Done Refusal → Answer
+answer_of (Ok done) = record { reply = 0; length = done.length; slot = done.slot; seqnum = done.seqnum }
+answer_of (Err refusal) = refused (refusal_number refusal)

@@ -3,6 +3,7 @@ ghost use Rattle.std.specs.Prelude.{◌≡◌, ◌≤◌, length};
 ghost use Rattle.capture.specs.Capture.{magic_of, order_of, order_number, order_numbered, is_known};
 
 use crate::digits;
+use answers::Refusal;
 
 // Bytes of a file's header, and of the longest file.
 pub const HEADER: usize = 24;
@@ -45,7 +46,7 @@ impl Order {
         match self {
             Order::HighFirst => HIGH_FIRST,
             Order::LowFirst => LOW_FIRST,
-            Order::Unknown => answers::BAD_CAPTURE,
+            Order::Unknown => Refusal::BadCapture.number(),
         }
     }
 

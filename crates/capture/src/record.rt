@@ -1,9 +1,11 @@
 // A record of a file: where it brings a source and a message, and where the next one begins.
 ghost use Rattle.std.specs.Prelude.{◌≡◌, ◌≤◌, length};
+ghost use Rattle.answers.specs.Answers.{refusal_number};
 ghost use Rattle.capture.specs.Capture.{record_at, ordered_at, data_at};
 
 use crate::digits;
 use crate::order::Order;
+use answers::Refusal;
 
 // Bytes of a record's header, and where it has its two lengths.
 const HEADER: usize = 16;
@@ -32,7 +34,7 @@ pub fn record_at(file: &[u8], order: Order, at: usize) -> Record
     ensures { result ≡ record_at order file.now at }
 {
     if !order.is_known() {
-        return without(answers::BAD_CAPTURE, file.len());
+        return without(Refusal::BadCapture, file.len());
     }
     ordered_at(file, order, at)
 }
@@ -42,20 +44,25 @@ fn ordered_at(file: &[u8], order: Order, at: usize) -> Record
     ensures { result ≡ ordered_at order file.now at }
 {
     if file.len() <= at {
-        return without(END, file.len());
+        return Record {
+            reply: END,
+            source: file.len(),
+            message: file.len(),
+            next: file.len(),
+        };
     }
     if file.len() - at < HEADER {
-        return without(answers::CUT_SHORT, file.len());
+        return without(Refusal::CutShort, file.len());
     }
     let data = at + HEADER;
     let captured = digits::number(file, order, at + CAPTURED_AT, 4) as usize;
     if file.len() - data < captured {
-        return without(answers::CUT_SHORT, file.len());
+        return without(Refusal::CutShort, file.len());
     }
     let next = data + captured;
     let original = digits::number(file, order, at + ORIGINAL_AT, 4) as usize;
     if captured != original {
-        return without(answers::LENGTHS_DIFFER, next);
+        return without(Refusal::LengthsDiffer, next);
     }
     data_at(file, data, next)
 }
@@ -66,12 +73,12 @@ fn data_at(file: &[u8], at: usize, next: usize) -> Record
     ensures { result ≡ data_at file.now at next }
 {
     if at == next {
-        return without(answers::UNREADABLE, next);
+        return without(Refusal::Unreadable, next);
     }
     let source = at + 1;
     let identifier = octets::wide(file[at]) as usize;
     if next - source < identifier {
-        return without(answers::UNREADABLE, next);
+        return without(Refusal::Unreadable, next);
     }
     Record {
         reply: answers::DONE,
@@ -82,13 +89,13 @@ fn data_at(file: &[u8], at: usize, next: usize) -> Record
 }
 
 // A record that brings nothing.
-fn without(reply: u64, next: usize) -> Record
-    ensures { result ≡ record { reply = reply; source = next; message = next; next = next } }
+fn without(refusal: Refusal, next: usize) -> Record
+    ensures { result ≡ record { reply = refusal_number refusal; source = next; message = next; next = next } }
 {
     Record {
-        reply: reply,
+        reply: refusal.number(),
         source: next,
         message: next,
-        next: next,
+        next,
     }
 }

@@ -9,7 +9,7 @@ ghost use Rattle.modes.specs.Modes.{magma_check, magma_counter};
 ghost use Rattle.derivation.specs.Derivation.{check_key, cipher_key};
 ghost use Rattle.format.specs.declared.suite.Suite.TheVariants.{MagmaCtr, MagmaNull};
 
-use derivation::Purpose;
+use derivation::{Derivation, Purpose};
 use format::key_data;
 use format::suite::Suite;
 
@@ -76,17 +76,15 @@ pub extern "C" fn cipher_keys_1(
     ensures check { result.check ≡ check_key base.now MagmaCtr edition source.now seqnum }
     ensures cipher { result.cipher ≡ cipher_key base.now MagmaCtr edition source.now seqnum }
 {
-    let subkeys = modes::subkeys_of(base);
-    let suite = Suite::MagmaCtr;
-    let first = derivation::cipher_first(suite);
     let purpose = Purpose {
-        suite,
+        suite: Suite::MagmaCtr,
         edition,
         seqnum,
     };
+    let keys = Derivation::new(base, purpose, source);
     BothKeys {
-        check: derivation::derived_key(base, subkeys, purpose, source, derivation::CHECK),
-        cipher: derivation::derived_key(base, subkeys, purpose, source, first),
+        check: keys.check_key(),
+        cipher: keys.cipher_key(),
     }
 }
 
@@ -95,13 +93,13 @@ pub extern "C" fn cipher_keys_1(
 pub extern "C" fn cipher_key_2(base: &[u32; 8], source: &[u8; 12], seqnum: u64) -> CheckKey
     ensures { result.check ≡ check_key base.now MagmaNull 2 source.now seqnum }
 {
-    let subkeys = modes::subkeys_of(base);
     let purpose = Purpose {
         suite: Suite::MagmaNull,
         edition: key_data::MSB,
         seqnum,
     };
+    let keys = Derivation::new(base, purpose, source);
     CheckKey {
-        check: derivation::derived_key(base, subkeys, purpose, source, derivation::CHECK),
+        check: keys.check_key(),
     }
 }

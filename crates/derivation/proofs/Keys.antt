@@ -1,31 +1,13 @@
--- The words of a derived key, stored block by block, two words each, and the data with a block's number in its first byte.
+-- The words of a derived key, stored block by block, two words each.
 -- Assumes nothing.
-use mathlib.Core.Path.{◌≡◌, refl, sym, ◌∙◌}
+use mathlib.Core.Path.{◌≡◌, sym, ◌∙◌}
 use mathlib.Core.List.{List, [], ◌∷◌, ◌++◌, append_assoc}
-use Prim.Native.Nat.{ℕ, zero, suc, ◌+◌, ◌*◌, ◌/◌, ◌%◌, ◌^◌, ◌≤◌, ◌<◌}
+use Prim.Native.Nat.{ℕ, suc, ◌+◌, ◌*◌, ◌/◌, ◌%◌, ◌^◌, ◌<◌}
 use native.Mathlib.Numerals.{add-one}
 use native.Mathlib.Omega.{arith}
-use lib.ListN.{length, take, drop, set, length-set, length-drop}
-use lib.Seq.{take-suc-set, take_all, set_split}
+use lib.ListN.{length, take, set, length-set}
+use lib.Seq.{take-suc-set, take_all}
 use Rattle.derivation.specs.Derivation.{block_words}
-
--- the data after k blocks
-abbrev pub numbered : List ℕ → ℕ → ℕ → List ℕ
-numbered bytes first zero = bytes
-numbered bytes first (suc k) = (first + k) ∷ drop 1 bytes
-
-module _ (bytes : List ℕ) (first : ℕ) where
-  pub numbered_rest : (k : ℕ) → drop 1 (numbered bytes first k) ≡ drop 1 bytes
-  numbered_rest zero = refl
-  numbered_rest (suc k) = refl
-
-  pub numbered_length : (k : ℕ) → 1 ≤ length bytes → length (numbered bytes first k) ≡ length bytes
-  numbered_length zero some = refl
-  numbered_length (suc k) some = omega (arith, length-drop 1 bytes)
-
-  pub numbered_next : (k : ℕ) → 1 ≤ length bytes → set (numbered bytes first k) 0 (first + k) ≡ numbered bytes first (k + 1)
-  numbered_next k some =
-      rw (set_split (numbered bytes first k) 0 (first + k) (rw (numbered_length k some) some), numbered_rest k, add-one k)
 
 two_more : (l : List ℕ) (k x y : ℕ) → 2 * k + 1 < length l
     → take (2 * suc k) (set (set l (2 * k) x) (2 * k + 1) y) ≡ take (2 * k) l ++ (x ∷ y ∷ [])

@@ -3,14 +3,13 @@
 
 ghost use Rattle.std.specs.Prelude.{◌∷◌, ◌≡◌, ◌+◌, ◌<◌, ◌≤◌, length, drop};
 ghost use Rattle.octets.specs.Octets.{put};
-ghost use Rattle.magma.specs.Magma.{encrypted};
-ghost use Rattle.modes.specs.Modes.{first_subkey, second_subkey, check_with};
+ghost use Rattle.modes.specs.Modes.{magma_check};
 ghost use Rattle.format.specs.Suite.{key_blocks_of};
-ghost use Rattle.derivation.specs.Derivation.{serial_of, data_after, block_words, key_from};
+ghost use Rattle.derivation.specs.Derivation.{serial_of, data_after, block_words, key_from, check_key, cipher_key};
 
 use format::key_data;
 use format::suite::Suite;
-use modes::Subkeys;
+use modes::CheckKey;
 
 // What a key is derived for: the suite, the edition and the number of a message.
 #[derive(Clone, Copy)]
@@ -18,6 +17,15 @@ pub struct Purpose {
     pub suite: Suite,
     pub edition: u8,
     pub seqnum: u64,
+}
+
+// What the keys of a message are derived from. Contracts see the base key's words.
+#[derive(Drop)]
+pub struct Derivation<'a> {
+    pub base: CheckKey<'a>,
+    pub purpose: Purpose,
+    pub source: &'a [u8],
+    ghost short: { length source.now ≤ 32 },
 }
 
 // The first of the blocks that make the check key.
@@ -33,20 +41,42 @@ pub fn cipher_first(suite: Suite) -> u8
     CHECK + suite.key_blocks()
 }
 
-// The key that the blocks from `first` on make, four of Magma's. The subkeys are the base key's.
-pub fn derived_key(
-    base: &[u32; 8],
-    subkeys: Subkeys,
-    purpose: Purpose,
-    source: &[u8],
-    first: u8,
-) -> [u32; 8]
-    requires { (subkeys.first ≡ first_subkey 8 0x1b (encrypted base.now)) × (subkeys.second ≡ second_subkey 8 0x1b (encrypted base.now)) × (length source.now ≤ 32) × (first < 6) }
-    ensures { result ≡ key_from base.now purpose.suite purpose.edition source.now purpose.seqnum first }
-{
-    let mut data = [0u8; LONGEST];
-    write_data(purpose, source, &mut data);
-    key_of_blocks(base, subkeys, &mut data[..18 + source.len()], first)
+impl<'a> Derivation<'a> {
+    // From a base key, for a purpose, by a source.
+    pub fn new(base: &'a [u32; 8], purpose: Purpose, source: &'a [u8]) -> Derivation<'a>
+        requires { length source.now ≤ 32 }
+        ensures { (result.base ≡ base.now) × (result.purpose ≡ purpose) × (result.source.now ≡ source.now) }
+    {
+        Derivation {
+            base: CheckKey::of(base),
+            purpose,
+            source,
+        }
+    }
+
+    // The key of the ICV.
+    pub fn check_key(&self) -> [u32; 8]
+        ensures { result ≡ check_key self.now.base self.now.purpose.suite self.now.purpose.edition self.now.source.now self.now.purpose.seqnum }
+    {
+        self.key_from(CHECK)
+    }
+
+    // The key of the counter mode.
+    pub fn cipher_key(&self) -> [u32; 8]
+        ensures { result ≡ cipher_key self.now.base self.now.purpose.suite self.now.purpose.edition self.now.source.now self.now.purpose.seqnum }
+    {
+        self.key_from(cipher_first(self.purpose.suite))
+    }
+
+    // The key that the blocks from `first` on make, four of Magma's.
+    pub fn key_from(&self, first: u8) -> [u32; 8]
+        requires { first < 6 }
+        ensures { result ≡ key_from self.now.base self.now.purpose.suite self.now.purpose.edition self.now.source.now self.now.purpose.seqnum first }
+    {
+        let mut data = [0; LONGEST];
+        write_data(self.purpose, self.source, &mut data);
+        key_of_blocks(&self.base, &mut data[..18 + self.source.len()], first)
+    }
 }
 
 // The data of a block, but for its number in the first byte.
@@ -76,20 +106,17 @@ fn serial(edition: u8, seqnum: u64) -> u64
     }
 }
 
-// The eight words of four blocks, each the check value of the data with the block's number in its first byte, where the last one stays.
-fn key_of_blocks(base: &[u32; 8], subkeys: Subkeys, bytes: &mut [u8], first: u8) -> [u32; 8]
+// The eight words of four blocks, each the check value of the data with the block's number in its first byte.
+fn key_of_blocks(base: &CheckKey, bytes: &mut [u8], first: u8) -> [u32; 8]
     requires { (1 ≤ length bytes.old) × (first < 6) }
-    ensures value { result ≡ block_words (λ i. check_with 8 (encrypted base.now) subkeys.first subkeys.second (i ∷ drop 1 bytes.old)) first 4 }
-    ensures bytes_after { bytes.new ≡ (first + 3) ∷ drop 1 bytes.old }
+    ensures { result ≡ block_words (λ i. magma_check base.now (i ∷ drop 1 bytes.old)) first 4 }
 {
-    let mut words = [0u32; 8];
-    let mut k: usize = 0;
-    while k < 4 {
+    let mut words = [0; 8];
+    for k in 0..4 {
         bytes[0] = first + (k as u8);
-        let block = modes::check_with(base, subkeys, bytes);
-        words[2 * k] = (block / 4294967296) as u32;
+        let block = base.check_value(bytes);
+        words[2 * k] = (block >> 32) as u32;
         words[2 * k + 1] = (block % 4294967296) as u32;
-        k += 1;
     }
     words
 }

@@ -18,8 +18,6 @@ use Rattle.window.specs.declared.Frame.{Frame}
 use Rattle.slots.specs.Table.{slot_of, occupied, replaced, empty_slot, slot_count, slot_length, table_length, is_held}
 use Rattle.slots.proofs.Replacing.{slot_own, slot_other, replaced_again}
 use Rattle.lookup.specs.Lookup.{matches, leads_to, leads_elsewhere, first_free}
-use Rattle.lookup.specs.declared.Found.{Found}
-use Rattle.lookup.specs.declared.Found.TheVariants.{At, Nothing}
 use Rattle.lookup.proofs.Firsts.{first_same, free_found}
 use Rattle.lookup.proofs.Matching.{no_match}
 use Rattle.entries.specs.Change.{changed}
@@ -30,6 +28,7 @@ use Rattle.entries.proofs.Fresh.{length_fresh}
 use Rattle.entries.proofs.Installs.{fair_facts, fair_is_true, installs_unfair, installs}
 use Rattle.entries.proofs.Outcomes.{Refuses, Enters, Frees, not_done, install_outcome, remove_outcome}
 use Rattle.entries.proofs.Removing.{removes_not, removes, held_small, held_is_true}
+use Rattle.std.specs.Prelude.{None, Option, Some}
 
 empty_length : length empty_slot ≡ slot_length
 empty_length = length-replicate {A = ℕ} slot_length 0
@@ -50,7 +49,7 @@ module _ (t : List ℕ) (long : length t ≡ table_length) (i : ℕ) where
         by j l (no other) = rw (slot_other t i empty_slot long small empty_length j l other, ne_eqb j i other)
 
     -- and an install finds a free slot
-    freed_free : (j : ℕ) × (first_free freed ≡ At j) × (j ≤ i)
+    freed_free : (j : ℕ) × (first_free freed ≡ Some j) × (j ≤ i)
     freed_free = free_found freed i small (ap occupied (slot_own t i empty_slot long small empty_length))
 
   module _ (k : KeyData) (f : Frame) where
@@ -58,7 +57,7 @@ module _ (t : List ℕ) (long : length t ≡ table_length) (i : ℕ) where
     done u j = record { answer = done_at j; table = replaced u j (fresh_slot k f) }
 
     -- the install after the removal, where key data, Size and start are sound
-    installs_freed : i < slot_count → is_fair k f ≡ true → (led : Found) → leads_elsewhere t i k.flag k.key_id k.source ≡ led
+    installs_freed : i < slot_count → is_fair k f ≡ true → (led : Option ℕ) → leads_elsewhere t i k.flag k.key_id k.source ≡ led
         → installed freed k f ≡ unless_twin freed (placed freed (fresh_slot k f) (first_free freed)) led
     installs_freed small fair led l =
         installs freed k f (fair_facts k f fair)
@@ -70,14 +69,14 @@ module _ (t : List ℕ) (long : length t ≡ table_length) (i : ℕ) where
     replies_as_two = by (is_held t i) refl (is_fair k f) refl (leads_elsewhere t i k.flag k.key_id k.source) refl
       where
         by : (held : Bool) → is_held t i ≡ held → (fair : Bool) → is_fair k f ≡ fair
-            → (led : Found) → leads_elsewhere t i k.flag k.key_id k.source ≡ led
+            → (led : Option ℕ) → leads_elsewhere t i k.flag k.key_id k.source ≡ led
             → let r = removed t i in (changed t i k f).answer.reply ≡ cond (eqb r.answer.reply 0) (installed r.table k f).answer.reply r.answer.reply
         by false h fair s led l = rw (changes_not t i k f h, removes_not t i h)
         by true h false s led l = rw (changes_unfair t i k f h s, removes t i h, installs_unfair freed k f s)
-        by true h true s (At j) l =
-            rw (changes t i k f h s, l, removes t i h, installs_freed (held_small t i h) s (At j) l)
-        by true h true s Nothing l =
-            rw (changes_alone t i k f h s l, removes t i h, installs_freed (held_small t i h) s Nothing l, (freed_free (held_small t i h)).1)
+        by true h true s (Some j) l =
+            rw (changes t i k f h s, l, removes t i h, installs_freed (held_small t i h) s (Some j) l)
+        by true h true s None l =
+            rw (changes_alone t i k f h s l, removes t i h, installs_freed (held_small t i h) s None l, (freed_free (held_small t i h)).1)
 
     -- Where both would succeed and the freed slot is the lowest free one, a change answers and leaves what the install would.
     pub change_is_two : Bytes k.key_id → (removed t i).answer ≡ done_at i → (installed (removed t i).table k f).answer ≡ done_at i

@@ -8,20 +8,20 @@ use native.Mathlib.Omega.{arith}
 use borrow.Author.Tests.{ne_eqb}
 use lib.ListN.{length, get_or}
 use Rattle.slots.specs.Table.{key_id_room}
-use Rattle.format.specs.KeyData.{known, goes_with, KeyData}
+use Rattle.format.specs.KeyData.{goes_with, KeyData}
 use Rattle.format.specs.Suite.{suite_of}
-use Rattle.format.specs.declared.suite.Numbered.{Numbered}
-use Rattle.format.specs.declared.suite.Numbered.TheVariants.{Known, Unknown}
 use Rattle.format.proofs.KeyIds.{length_most}
 use Rattle.format.proofs.Soundness.{Sound}
 use Rattle.format.proofs.Suites.{number_lt, suite_number}
+use Rattle.std.specs.Prelude.{None, Option, Some, is_some}
+use Rattle.format.specs.declared.suite.Suite.{Suite}
 
-suite_small : (cs : ℕ) → known (suite_of cs) ≡ true → cs < 256
+suite_small : (cs : ℕ) → is_some (suite_of cs) ≡ true → cs < 256
 suite_small cs = by (suite_of cs) refl
   where
-    by : (n : Numbered) → n ≡ suite_of cs → known n ≡ true → cs < 256
-    by (Known s) is e = rw (suite_number cs s is) at (number_lt s)
-    by Unknown is e = absurd (false≢true e)
+    by : (n : Option Suite) → n ≡ suite_of cs → is_some n ≡ true → cs < 256
+    by (Some s) is e = rw (suite_number cs s is) at (number_lt s)
+    by None is e = absurd (false≢true e)
 
 edition_small : (edition suite : ℕ) → goes_with edition suite ≡ true → edition < 256
 edition_small edition suite e = by (dec_lt edition 256)

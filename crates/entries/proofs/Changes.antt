@@ -9,10 +9,10 @@ use Rattle.format.specs.KeyData.{KeyData}
 use Rattle.window.specs.declared.Frame.{Frame}
 use Rattle.slots.specs.Table.{replaced, is_held}
 use Rattle.lookup.specs.Lookup.{leads_elsewhere}
-use Rattle.lookup.specs.declared.Found.TheVariants.{At, Nothing}
 use Rattle.entries.specs.Change.{changed}
 use Rattle.entries.specs.Fresh.{fresh_slot}
 use Rattle.entries.specs.Install.{done_at, placed, unless_twin, is_fair}
+use Rattle.std.specs.Prelude.{None, Some}
 
 module _ (t : List ℕ) (i : ℕ) (k : KeyData) (f : Frame) where
   pub changes_not : is_held t i ≡ false → changed t i k f ≡ record { answer = refused no_slot; table = t }
@@ -25,10 +25,10 @@ module _ (t : List ℕ) (i : ℕ) (k : KeyData) (f : Frame) where
     changes_unfair e = rw (held, e)
 
     pub changes : is_fair k f ≡ true
-        → changed t i k f ≡ unless_twin t (placed t (fresh_slot k f) (At i)) (leads_elsewhere t i k.flag k.key_id k.source)
+        → changed t i k f ≡ unless_twin t (placed t (fresh_slot k f) (Some i)) (leads_elsewhere t i k.flag k.key_id k.source)
     unfolding changed
     changes e = rw (held, e)
 
-    pub changes_alone : is_fair k f ≡ true → leads_elsewhere t i k.flag k.key_id k.source ≡ Nothing
+    pub changes_alone : is_fair k f ≡ true → leads_elsewhere t i k.flag k.key_id k.source ≡ None
         → changed t i k f ≡ record { answer = done_at i; table = replaced t i (fresh_slot k f) }
-    changes_alone e none = changes e ∙ ap (unless_twin t (placed t (fresh_slot k f) (At i))) none
+    changes_alone e none = changes e ∙ ap (unless_twin t (placed t (fresh_slot k f) (Some i))) none

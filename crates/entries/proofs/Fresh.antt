@@ -26,12 +26,6 @@ use Rattle.lookup.proofs.Matching.{match_test}
 use Rattle.slots.proofs.Standing.{Lies, joined, ahead, lies, starts_with, piece, number, byte, zeros}
 use Rattle.entries.proofs.Stretches.{length_padded}
 
-pub length_head : (flag suite edition : ℕ) → length (head_of flag suite edition) ≡ 4
-length_head flag suite edition = simp (length-append, length_bytes)
-
-pub length_frame : (f : Frame) → length (frame_bytes f) ≡ 16
-length_frame f = simp (length-append, length_bytes)
-
 -- the parts of a slot, but for window, totals and counters
 pub record Parts (k : KeyData) (s : List ℕ) : Type 0 where
   pub first : get_or s occupied_at 0 ≡ 1

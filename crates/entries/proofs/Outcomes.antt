@@ -15,8 +15,6 @@ use Rattle.lookup.specs.Lookup.{leads_to, leads_elsewhere, first_free}
 use Rattle.entries.specs.Change.{changed}
 use Rattle.entries.specs.Fresh.{fresh_slot}
 use Rattle.entries.specs.Install.{Left, done_at, placed, unless_twin, installed, removed, is_fair}
-use Rattle.lookup.specs.declared.Found.{Found}
-use Rattle.lookup.specs.declared.Found.TheVariants.{At, Nothing}
 use lib.ListN.{length, length-replicate}
 use Rattle.octets.specs.Octets.{Bytes}
 use Rattle.format.proofs.Soundness.{sound_facts}
@@ -26,6 +24,7 @@ use Rattle.entries.proofs.Changes.{changes_not, changes_unfair, changes, changes
 use Rattle.entries.proofs.Fresh.{length_fresh}
 use Rattle.entries.proofs.Installs.{Fair, fair_facts, installs_unfair, installs, installs_alone}
 use Rattle.entries.proofs.Removing.{removes_not, removes, held_small, held_occupied}
+use Rattle.std.specs.Prelude.{None, Option, Some}
 
 pub record Refuses (t : List ℕ) (left : Left) : Type 0 where
   pub reply : ℕ
@@ -39,8 +38,8 @@ not_done r done = omega (arith, r.some, ap (λ (x : Left). x.answer.reply) r.is)
 -- a fresh entry without a twin takes the lowest free slot
 pub record Enters (t : List ℕ) (k : KeyData) (f : Frame) (i : ℕ) : Type 0 where
   pub fair : Fair k f
-  pub alone : leads_to t k.flag k.key_id k.source ≡ Nothing
-  pub free : first_free t ≡ At i
+  pub alone : leads_to t k.flag k.key_id k.source ≡ None
+  pub free : first_free t ≡ Some i
   pub is : installed t k f ≡ record { answer = done_at i; table = replaced t i (fresh_slot k f) }
 
 module _ (t : List ℕ) (k : KeyData) (f : Frame) where
@@ -50,22 +49,22 @@ module _ (t : List ℕ) (k : KeyData) (f : Frame) where
   pub install_outcome : Refuses t (installed t k f) ⊎ ((i : ℕ) × Enters t k f i)
   install_outcome = by (is_fair k f) refl (leads_to t k.flag k.key_id k.source) refl (first_free t) refl
     where
-      by : (b : Bool) → is_fair k f ≡ b → (led : Found) → leads_to t k.flag k.key_id k.source ≡ led
-          → (free : Found) → first_free t ≡ free → Refuses t (installed t k f) ⊎ ((i : ℕ) × Enters t k f i)
+      by : (b : Bool) → is_fair k f ≡ b → (led : Option ℕ) → leads_to t k.flag k.key_id k.source ≡ led
+          → (free : Option ℕ) → first_free t ≡ free → Refuses t (installed t k f) ⊎ ((i : ℕ) × Enters t k f i)
       by false e led l free g = inl (record { reply = unsound; some = lit≤ tt; is = installs_unfair t k f e })
-      by true e (At j) l free g =
+      by true e (Some j) l free g =
           inl (record {
             reply = twin;
             some = lit≤ tt;
             is = installs t k f (fair_facts k f e) ∙ ap (unless_twin t (placed t fresh (first_free t))) l;
           })
-      by true e Nothing l Nothing g =
+      by true e None l None g =
           inl (record {
             reply = full;
             some = lit≤ tt;
             is = installs_alone t k f (fair_facts k f e) l ∙ ap (placed t fresh) g;
           })
-      by true e Nothing l (At i) g =
+      by true e None l (Some i) g =
           inr (
             i,
             record {
@@ -94,23 +93,23 @@ pub record Changes (t : List ℕ) (i : ℕ) (k : KeyData) (f : Frame) : Type 0 w
   pub small : i < slot_count
   pub held : occupied (slot_of t i) ≡ true
   pub fair : Fair k f
-  pub alone : leads_elsewhere t i k.flag k.key_id k.source ≡ Nothing
+  pub alone : leads_elsewhere t i k.flag k.key_id k.source ≡ None
   pub is : changed t i k f ≡ record { answer = done_at i; table = replaced t i (fresh_slot k f) }
 
 pub change_outcome : (t : List ℕ) (i : ℕ) (k : KeyData) (f : Frame) → Refuses t (changed t i k f) ⊎ Changes t i k f
 change_outcome t i k f = by (is_held t i) refl (is_fair k f) refl (leads_elsewhere t i k.flag k.key_id k.source) refl
   where
     by : (b : Bool) → is_held t i ≡ b → (s : Bool) → is_fair k f ≡ s
-        → (led : Found) → leads_elsewhere t i k.flag k.key_id k.source ≡ led → Refuses t (changed t i k f) ⊎ Changes t i k f
+        → (led : Option ℕ) → leads_elsewhere t i k.flag k.key_id k.source ≡ led → Refuses t (changed t i k f) ⊎ Changes t i k f
     by false h s e led l = inl (record { reply = no_slot; some = lit≤ tt; is = changes_not t i k f h })
     by true h false e led l = inl (record { reply = unsound; some = lit≤ tt; is = changes_unfair t i k f h e })
-    by true h true e (At j) l =
+    by true h true e (Some j) l =
         inl (record {
           reply = twin;
           some = lit≤ tt;
-          is = changes t i k f h e ∙ ap (unless_twin t (placed t (fresh_slot k f) (At i))) l;
+          is = changes t i k f h e ∙ ap (unless_twin t (placed t (fresh_slot k f) (Some i))) l;
         })
-    by true h true e Nothing l =
+    by true h true e None l =
         inr (record {
           small = held_small t i h;
           held = held_occupied t i h;

@@ -1,6 +1,6 @@
 -- Install and remove (01, "Replies"): install refuses with 13, 14, 15 in that order, remove with 16. 02, No. 2: "a larger start gives 13 at
 -- install", No. 4: "another edition, or 1 with a suite other than 1, gives 13 at install".
-use Rattle.std.specs.Prelude.{◌≡◌, Bool, cond, ◌&&◌, List, ℕ}
+use Rattle.std.specs.Prelude.{None, Option, Some, ◌≡◌, Bool, cond, ◌&&◌, List, ℕ}
 use Rattle.answers.specs.Answers.{refused, unsound, twin, full, no_slot}
 use Rattle.answers.specs.declared.Answer.{Answer}
 use Rattle.format.specs.KeyData.{KeyData, sound_of}
@@ -9,8 +9,6 @@ use Rattle.window.specs.declared.Frame.{Frame}
 use Rattle.slots.specs.Table.{replaced, empty_slot, is_held}
 use Rattle.lookup.specs.Lookup.{leads_to, first_free}
 use Rattle.entries.specs.Fresh.{fresh_slot}
-use Rattle.lookup.specs.declared.Found.{Found}
-use Rattle.lookup.specs.declared.Found.TheVariants.{At, Nothing}
 
 -- what a call on the table leaves
 pub record Left : Type 0 where
@@ -31,14 +29,14 @@ abbrev pub is_fair : KeyData → Frame → Bool
 is_fair k f = sound_of k && sound_frame f
 
 -- "Install takes the lowest free slot, freed ones included, and starts fresh"
-abbrev pub placed : List ℕ → List ℕ → Found → Left
-placed t fresh (At i) = record { answer = done_at i; table = replaced t i fresh }
-placed t fresh Nothing = record { answer = refused full; table = t }
+abbrev pub placed : List ℕ → List ℕ → Option ℕ → Left
+placed t fresh (Some i) = record { answer = done_at i; table = replaced t i fresh }
+placed t fresh None = record { answer = refused full; table = t }
 
 -- where no slot was found that has the same flag and KeyId and, for flag 1, source
-abbrev pub unless_twin : List ℕ → Left → Found → Left
-unless_twin t done (At i) = record { answer = refused twin; table = t }
-unless_twin t done Nothing = done
+abbrev pub unless_twin : List ℕ → Left → Option ℕ → Left
+unless_twin t done (Some i) = record { answer = refused twin; table = t }
+unless_twin t done None = done
 
 unfoldable pub installed : List ℕ → KeyData → Frame → Left
 installed t k f =

@@ -2,64 +2,64 @@
 ghost use Rattle.std.specs.Prelude.{◌≡◌, ◌+◌, ◌<◌, ◌≤◌, length};
 ghost use Rattle.octets.specs.Octets.{put};
 ghost use Rattle.format.specs.KeyData.{keyed};
-ghost use Rattle.slots.specs.Table.{slot_length, table_length, slot_count, size_at, key_id_room, source_room, replaced};
+ghost use Rattle.slots.specs.Table.{slot_length, occupied_at, size_at, key_id_room, source_room, replaced};
 ghost use Rattle.entries.specs.Fresh.{prefixed, head_of, frame_bytes, fresh_slot};
 
 use format::key_data;
 use format::key_data::Terms;
+use slots::index::SlotIndex;
 use slots::layout;
+use slots::layout::{SLOT, TABLE};
 use window::Frame;
 
 // A fresh entry fills its slot.
 pub(crate) fn write_entry(
-    table: &mut [u8],
-    slot: usize,
+    table: &mut [u8; TABLE],
+    slot: SlotIndex,
     terms: Terms,
     keyid: &[u8],
     source: &[u8],
     key: &[u8],
     frame: Frame,
 )
-    requires { (length table.old ≡ table_length) × (slot < slot_count) × (length keyid.now ≤ key_id_room) × (length source.now ≤ source_room) × (length key.now ≡ 32) }
+    requires keyid_fits { length keyid.now ≤ key_id_room }
+    requires source_fits { length source.now ≤ source_room }
+    requires key_fits { length key.now ≡ 32 }
     ensures { table.new ≡ replaced table.old slot (fresh_slot (keyed terms keyid.now source.now key.now) frame) }
 {
-    let at = layout::SLOT * slot;
-    write_head(table, at, terms);
-    write_prefixed(
-        keyid,
-        table,
-        at + layout::KEYID_LENGTH,
-        key_data::GREATEST_KEYID,
-    );
+    let from = slot.offset();
+    let fresh = &mut table[from..from + SLOT];
+    write_head(fresh, terms);
+    write_prefixed(keyid, fresh, layout::KEYID_LENGTH, key_data::GREATEST_KEYID);
     write_prefixed(
         source,
-        table,
-        at + layout::SOURCE_LENGTH,
+        fresh,
+        layout::SOURCE_LENGTH,
         key_data::GREATEST_SOURCE,
     );
-    octets::copy(key, table, at + layout::KEY);
-    write_frame(table, at, frame);
-    octets::clear(table, at + layout::HIGHEST, layout::SLOT - layout::HIGHEST);
+    octets::copy(key, fresh, layout::KEY);
+    write_frame(fresh, frame);
+    octets::clear(fresh, layout::HIGHEST, SLOT - layout::HIGHEST);
 }
 
 // The first bytes of an occupied slot.
-fn write_head(table: &mut [u8], at: usize, terms: Terms)
-    requires { at + 4 ≤ length table.old }
-    ensures { table.new ≡ put table.old at (head_of terms.flag terms.suite terms.edition) }
+fn write_head(slot: &mut [u8], terms: Terms)
+    requires { length slot.old ≡ slot_length }
+    ensures { slot.new ≡ put slot.old occupied_at (head_of terms.flag terms.suite terms.edition) }
 {
-    octets::write(table, at, 1, 1);
-    octets::write(table, at + layout::FLAG, 1, terms.flag as u64);
-    octets::write(table, at + layout::SUITE, 1, terms.suite as u64);
-    octets::write(table, at + layout::EDITION, 1, terms.edition as u64);
+    octets::write(slot, layout::OCCUPIED, 1, 1);
+    octets::write(slot, layout::FLAG, 1, terms.flag as u64);
+    octets::write(slot, layout::SUITE, 1, terms.suite as u64);
+    octets::write(slot, layout::EDITION, 1, terms.edition as u64);
 }
 
-// What is settled of the window, in the slot that begins at `at`.
-fn write_frame(table: &mut [u8], at: usize, frame: Frame)
-    requires { at + slot_length ≤ length table.old }
-    ensures { table.new ≡ put table.old (at + size_at) (frame_bytes frame) }
+// What is settled of the window.
+fn write_frame(slot: &mut [u8], frame: Frame)
+    requires { length slot.old ≡ slot_length }
+    ensures { slot.new ≡ put slot.old size_at (frame_bytes frame) }
 {
-    octets::write(table, at + layout::SIZE, 8, frame.size);
-    octets::write(table, at + layout::START, 8, frame.start);
+    octets::write(slot, layout::SIZE, 8, frame.size);
+    octets::write(slot, layout::START, 8, frame.start);
 }
 
 // The bytes behind their length, with zeros behind them up to so many in all, are written at `at`.

@@ -1,65 +1,64 @@
 // Entries put into the table and taken out, and what is asked before.
-ghost use Rattle.std.specs.Prelude.{◌≡◌, length};
+ghost use Rattle.std.specs.Prelude.{◌≡◌, ◌↔◌, true, IsSome, IfSome};
+ghost use Rattle.answers.specs.Answers.{answer_of};
 ghost use Rattle.format.specs.KeyData.{keyed};
-ghost use Rattle.slots.specs.Table.{table_length, is_held};
-ghost use Rattle.entries.specs.Install.{done_at, IsLeft, is_fair, installed, removed};
+ghost use Rattle.slots.specs.Table.{is_held};
+ghost use Rattle.entries.specs.Install.{IsLeft, is_fair, installed, removed};
 
 use crate::filling;
-use answers::Answer;
+use answers::{Done, Refusal};
 use format::key_data;
 use format::key_data::Terms;
-use lookup::Found;
-use slots::layout;
+use slots::index::SlotIndex;
+use slots::layout::{SLOT, TABLE};
+use slots::record::Slot;
 use window::Frame;
 
 // Replies 13, 14 and 15 in that order; else a fresh entry in the lowest free slot.
 pub(crate) fn install_in(
-    table: &mut [u8],
+    table: &mut [u8; TABLE],
     terms: Terms,
     keyid: &[u8],
     source: &[u8],
     key: &[u8],
     frame: Frame,
-) -> Answer
-    requires { length table.old ≡ table_length }
-    ensures { IsLeft (installed table.old (keyed terms keyid.now source.now key.now) frame) result table.new }
+) -> Result<Done, Refusal>
+    ensures { IsLeft (installed table.old (keyed terms keyid.now source.now key.now) frame) (answer_of result) table.new }
 {
     if !fair(terms, keyid, source, key, frame) {
-        return answers::refuse(answers::UNSOUND);
+        return Err(Refusal::Unsound);
     }
-    let twin = lookup::leads_to(table, terms.flag, keyid, source);
-    let Found::Nothing = twin else {
-        return answers::refuse(answers::TWIN);
-    };
-    let free = lookup::first_free(table);
-    let Found::At(slot) = free else {
-        return answers::refuse(answers::FULL);
+    if lookup::leads_to(table, terms.flag, keyid, source).is_some() {
+        return Err(Refusal::Twin);
+    }
+    let Some(slot) = lookup::first_free(table) else {
+        return Err(Refusal::Full);
     };
     filling::write_entry(table, slot, terms, keyid, source, key, frame);
-    done_at(slot)
+    Ok(Done::at(slot.number))
 }
 
 // Reply 16, or the slot cleared.
-pub(crate) fn remove_in(table: &mut [u8], slot: usize) -> Answer
-    requires { length table.old ≡ table_length }
-    ensures { IsLeft (removed table.old slot) result table.new }
+pub(crate) fn remove_in(table: &mut [u8; TABLE], slot: usize) -> Result<Done, Refusal>
+    ensures { IsLeft (removed table.old slot) (answer_of result) table.new }
 {
-    if !held(table, slot) {
-        return answers::refuse(answers::NO_SLOT);
-    }
-    octets::clear(table, layout::SLOT * slot, layout::SLOT);
-    done_at(slot)
+    let Some(index) = held(table, slot) else {
+        return Err(Refusal::NoSlot);
+    };
+    octets::clear(table, index.offset(), SLOT);
+    Ok(Done::at(index.number))
 }
 
-// Whether there is such a slot and it is occupied: if not, 16.
-pub(crate) fn held(table: &[u8], slot: usize) -> bool
-    requires { length table.now ≡ table_length }
-    ensures { result ≡ is_held table.now slot }
+// The slot with that number, if the table has it and it is occupied: if not, 16.
+pub(crate) fn held(table: &[u8; TABLE], slot: usize) -> Option<SlotIndex>
+    ensures there { IsSome result ↔ (is_held table.now slot ≡ true) }
+    ensures same { IfSome result (λ held. held ≡ slot) }
 {
-    if layout::SLOTS <= slot {
-        return false;
+    let held = SlotIndex::new(slot)?;
+    if !Slot::at(table, held).is_occupied() {
+        return None;
     }
-    table[layout::SLOT * slot] != 0
+    Some(held)
 }
 
 // Whether key data, Size and start are sound: if not, 13.
@@ -70,16 +69,4 @@ pub(crate) fn fair(terms: Terms, keyid: &[u8], source: &[u8], key: &[u8], frame:
         return false;
     }
     window::sound_frame(frame)
-}
-
-// Done at a slot.
-pub(crate) fn done_at(slot: usize) -> Answer
-    ensures { result ≡ done_at slot }
-{
-    Answer {
-        reply: answers::DONE,
-        length: 0,
-        slot: slot,
-        seqnum: 0,
-    }
 }

@@ -35,14 +35,14 @@ pub fn install(
         edition,
     };
     let frame = Frame { size, start };
-    installing::install_in(table, terms, keyid, source, key, frame)
+    installing::install_in(table, terms, keyid, source, key, frame).into()
 }
 
 // The slot is freed and holds zeros only. Refuses with 16 (slot over 15, or free).
 pub fn remove(table: &mut [u8; TABLE], slot: usize) -> Answer
     ensures { IsLeft (removed table.old slot) result table.new }
 {
-    installing::remove_in(table, slot)
+    installing::remove_in(table, slot).into()
 }
 
 // The slot's entry becomes a fresh one with other key data, Size and start, or nothing changes. Refuses with 16 (slot over 15, or free), 13 (key data,
@@ -67,5 +67,5 @@ pub fn change(
         edition,
     };
     let frame = Frame { size, start };
-    changing::change_in(table, slot, terms, keyid, source, key, frame)
+    changing::change_in(table, slot, terms, keyid, source, key, frame).into()
 }

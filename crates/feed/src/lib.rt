@@ -2,12 +2,13 @@
 #![tactic(auto)]
 
 ghost use Rattle.std.specs.Prelude.{true, ◌≡◌, ◌+◌, ◌-◌, ◌*◌, ◌≤◌, ◌<◌, length};
+ghost use Rattle.answers.specs.Answers.{refusal_number};
 ghost use Rattle.octets.specs.Octets.{put};
 ghost use Rattle.gateway.specs.Receive.{received};
 ghost use Rattle.capture.specs.Capture.{is_known, header_length, longest_file, item_of, records_from};
 ghost use Rattle.feed.specs.Report.{line_of, blank, brought_by, turn_of, IsTold, text_room, IsReported, refused, read_in, reported};
 
-use answers::OUTPUT;
+use answers::{OUTPUT, Refusal};
 use capture::order::Order;
 use capture::record::Record;
 use capture::{order, record};
@@ -32,21 +33,21 @@ pub fn report(table: &mut [u8; TABLE], file: &[u8], out: &mut [u8]) -> Summary
     ensures { IsReported (reported table.old file.now out.old) result table.new out.new }
 {
     if out.len() < TEXT {
-        return refuse(answers::OUTPUT_SMALL);
+        return refuse(Refusal::OutputSmall);
     }
     let order = order::order_of(file);
     if !order.is_known() {
-        return refuse(answers::BAD_CAPTURE);
+        return refuse(Refusal::BadCapture);
     }
     read_all(table, file, order, out)
 }
 
 // A refusal: its number, and nothing else.
-fn refuse(reply: u64) -> Summary
-    ensures { result ≡ refused reply }
+fn refuse(refusal: Refusal) -> Summary
+    ensures { result ≡ refused (refusal_number refusal) }
 {
     Summary {
-        reply: reply,
+        reply: refusal.number(),
         length: 0,
         records: 0,
         cut: false,
@@ -66,7 +67,7 @@ fn read_all(table: &mut [u8; TABLE], file: &[u8], order: Order, out: &mut [u8]) 
         let found = record::record_at(file, order, at);
         records += 1;
         end = take(table, file, found, records, out, end);
-        cut = found.reply == answers::CUT_SHORT;
+        cut = found.reply == Refusal::CutShort.number();
         at = found.next;
     }
     Summary {

@@ -8,35 +8,36 @@ use Rattle.text.specs.Reading.{Read, failed, got}
 use Rattle.text.proofs.ReadPrinted.{got_rest, never}
 use Rattle.form.specs.Form.{SettledValues, ArrivalValues, read_settled, read_arrivals}
 use Rattle.form.specs.Found.{settled_values, arrival_values, FindsSettled, FindsArrivals, place_of, LinesFound}
-use Rattle.form.specs.declared.lines.Settled.{Settled}
-use Rattle.form.specs.declared.lines.Settled.TheVariants as settled
-use Rattle.form.specs.declared.lines.Arrivals.{Arrivals}
-use Rattle.form.specs.declared.lines.Arrivals.TheVariants as arrivals
 use Rattle.form.specs.declared.reader.Lines.{Lines}
+use Rattle.std.specs.Prelude.{Option, Some, None}
+use Rattle.form.specs.declared.lines.NamedLines.{NamedLines}
+use Rattle.form.specs.declared.lines.TermLines.{TermLines}
+use Rattle.form.specs.declared.lines.MovedLines.{MovedLines}
+use Rattle.window.specs.declared.Counters.{Counters}
 
 -- the values of a stretch, and what is left behind it
-abbrev pub settled_read : List ℕ → Settled → Read SettledValues
-settled_read text (settled.Is v w next) = got (settled_values text v w) (drop next text)
-settled_read text settled.Bad = failed
+abbrev pub settled_read : List ℕ → Option (NamedLines × TermLines × ℕ) → Read SettledValues
+settled_read text (Some (v, w, next)) = got (settled_values text v w) (drop next text)
+settled_read text None = failed
 
-abbrev pub arrivals_read : List ℕ → Arrivals → Read ArrivalValues
-arrivals_read text (arrivals.Is v w next) = got (arrival_values text v w) (drop next text)
-arrivals_read text arrivals.Bad = failed
+abbrev pub arrivals_read : List ℕ → Option (MovedLines × Counters × ℕ) → Read ArrivalValues
+arrivals_read text (Some (v, w, next)) = got (arrival_values text v w) (drop next text)
+arrivals_read text None = failed
 
-settled_is : (text : List ℕ) (o : Read SettledValues) (a : Settled) → FindsSettled text o a → o ≡ settled_read text a
-settled_is text o (settled.Is v w next) f = f.0
-settled_is text o settled.Bad f = f
+settled_is : (text : List ℕ) (o : Read SettledValues) (a : Option (NamedLines × TermLines × ℕ)) → FindsSettled text o a → o ≡ settled_read text a
+settled_is text o (Some (v, w, next)) f = f.0
+settled_is text o None f = f
 
-arrivals_is : (text : List ℕ) (o : Read ArrivalValues) (a : Arrivals) → FindsArrivals text o a → o ≡ arrivals_read text a
-arrivals_is text o (arrivals.Is v w next) f = f.0
-arrivals_is text o arrivals.Bad f = f
+arrivals_is : (text : List ℕ) (o : Read ArrivalValues) (a : Option (MovedLines × Counters × ℕ)) → FindsArrivals text o a → o ≡ arrivals_read text a
+arrivals_is text o (Some (v, w, next)) f = f.0
+arrivals_is text o None f = f
 
 -- the second stretch is looked for where the first ends, or at the start
-left_behind : (text : List ℕ) (a b : Settled) → settled_read text a ≡ settled_read text b → drop (place_of a) text ≡ drop (place_of b) text
-left_behind text (settled.Is v w next) (settled.Is x y other) e = got_rest e
-left_behind text (settled.Is v w next) settled.Bad e = never (sym e)
-left_behind text settled.Bad (settled.Is x y other) e = never e
-left_behind text settled.Bad settled.Bad e = refl
+left_behind : (text : List ℕ) (a b : Option (NamedLines × TermLines × ℕ)) → settled_read text a ≡ settled_read text b → drop (place_of a) text ≡ drop (place_of b) text
+left_behind text (Some (v, w, next)) (Some (x, y, other)) e = got_rest e
+left_behind text (Some (v, w, next)) None e = never (sym e)
+left_behind text None (Some (x, y, other)) e = never e
+left_behind text None None e = refl
 
 pub lines_determined : (text : List ℕ) (a b : Lines) → LinesFound text a → LinesFound text b
     → (settled_read text a.settled ≡ settled_read text b.settled) × (arrivals_read text a.arrivals ≡ arrivals_read text b.arrivals)

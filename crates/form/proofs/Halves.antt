@@ -11,26 +11,23 @@ use Rattle.form.specs.Found.{settled_values, arrival_values, NamedWithin, MovedW
 use Rattle.form.specs.declared.lines.NamedLines.{NamedLines}
 use Rattle.form.specs.declared.lines.TermLines.{TermLines}
 use Rattle.form.specs.declared.lines.MovedLines.{MovedLines}
-use Rattle.form.specs.declared.lines.Settled.{Settled}
-use Rattle.form.specs.declared.lines.Settled.TheVariants as settled
-use Rattle.form.specs.declared.lines.Arrivals.{Arrivals}
-use Rattle.form.specs.declared.lines.Arrivals.TheVariants as arrivals
 use Rattle.form.specs.declared.reader.Lines.{Lines}
+use Rattle.std.specs.Prelude.{Option, Some, None}
 
 module _ (text : List ℕ) (r : Lines) (found : LinesFound text r) where
-  pub first_bad : r.settled ≡ settled.Bad → read_settled text ≡ failed
-  first_bad e = subst (λ (x : Settled). FindsSettled text (read_settled text) x) e found.settled
+  pub first_bad : r.settled ≡ None → read_settled text ≡ failed
+  first_bad e = subst (λ (x : Option (NamedLines × TermLines × ℕ)). FindsSettled text (read_settled text) x) e found.settled
 
-  module _ (v : NamedLines) (w : TermLines) (next : ℕ) (e : r.settled ≡ settled.Is v w next) where
+  module _ (v : NamedLines) (w : TermLines) (next : ℕ) (e : r.settled ≡ Some (v, w, next)) where
     pub first_is : (read_settled text ≡ got (settled_values text v w) (drop next text)) × NamedWithin text v
-    first_is = subst (λ (x : Settled). FindsSettled text (read_settled text) x) e found.settled
+    first_is = subst (λ (x : Option (NamedLines × TermLines × ℕ)). FindsSettled text (read_settled text) x) e found.settled
 
     behind : FindsArrivals text (read_arrivals (drop next text)) r.arrivals
-    behind = subst (λ (x : Settled). FindsArrivals text (read_arrivals (drop (place_of x) text)) r.arrivals) e found.arrivals
+    behind = subst (λ (x : Option (NamedLines × TermLines × ℕ)). FindsArrivals text (read_arrivals (drop (place_of x) text)) r.arrivals) e found.arrivals
 
-    pub second_bad : r.arrivals ≡ arrivals.Bad → read_arrivals (drop next text) ≡ failed
-    second_bad f = subst (λ (y : Arrivals). FindsArrivals text (read_arrivals (drop next text)) y) f behind
+    pub second_bad : r.arrivals ≡ None → read_arrivals (drop next text) ≡ failed
+    second_bad f = subst (λ (y : Option (MovedLines × Counters × ℕ)). FindsArrivals text (read_arrivals (drop next text)) y) f behind
 
-    pub second_is : (m : MovedLines) (c : Counters) (end : ℕ) → r.arrivals ≡ arrivals.Is m c end
+    pub second_is : (m : MovedLines) (c : Counters) (end : ℕ) → r.arrivals ≡ Some (m, c, end)
         → (read_arrivals (drop next text) ≡ got (arrival_values text m c) (drop end text)) × (end ≤ length text) × MovedWithin text m
-    second_is m c end f = subst (λ (y : Arrivals). FindsArrivals text (read_arrivals (drop next text)) y) f behind
+    second_is m c end f = subst (λ (y : Option (MovedLines × Counters × ℕ)). FindsArrivals text (read_arrivals (drop next text)) y) f behind

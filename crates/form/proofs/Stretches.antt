@@ -11,20 +11,20 @@ use lib.Seq.{drop-cons}
 use Rattle.octets.specs.Octets.{big_endian, same}
 use Rattle.text.specs.Reading.{Read, failed, got, read_decimal_line, read_hex_line, read_bytes_line, read_number_line}
 use Rattle.text.specs.Found.{FindsNumber, FindsSpan}
-use Rattle.text.specs.declared.reading.Number.{Number}
-use Rattle.text.specs.declared.reading.Span.{Span}
 use Rattle.window.specs.declared.Counters.{Counters}
 use Rattle.listing.specs.Listing.{slot_name, flag_name, key_id_name, source_name, suite_name, edition_name, size_name, start_name, highest_name, marks_name, accepted_name, bytes_name, replays_name, forged_name}
 use Rattle.form.specs.Form.{NamedValues, SettledValues, MovedValues, ArrivalValues, read_named, read_terms, read_settled, read_moved, read_counters, read_arrivals, listing_in}
 use Rattle.form.specs.declared.lines.TermLines.{TermLines}
 use Rattle.form.proofs.Chains.{four, two}
+use Rattle.std.specs.Prelude.{Option}
+use Rattle.text.specs.declared.reading.Hex.{Hex}
 
 -- what is found, by the case of the answer
-pub number_by : (text : List ℕ) (o : Read ℕ) {a b : Number} → a ≡ b → FindsNumber text o a → FindsNumber text o b
-number_by text o e r = subst (λ (x : Number). FindsNumber text o x) e r
+pub number_by : (text : List ℕ) (o : Read ℕ) {a b : Option (ℕ × ℕ)} → a ≡ b → FindsNumber text o a → FindsNumber text o b
+number_by text o e r = subst (λ (x : Option (ℕ × ℕ)). FindsNumber text o x) e r
 
-pub span_by : (text : List ℕ) (o : Read (List ℕ)) {a b : Span} → a ≡ b → FindsSpan text o a → FindsSpan text o b
-span_by text o e r = subst (λ (x : Span). FindsSpan text o x) e r
+pub span_by : (text : List ℕ) (o : Read (List ℕ)) {a b : Option (Hex × ℕ)} → a ≡ b → FindsSpan text o a → FindsSpan text o b
+span_by text o e r = subst (λ (x : Option (Hex × ℕ)). FindsSpan text o x) e r
 
 -- ---- the lines
 

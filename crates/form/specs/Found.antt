@@ -1,5 +1,5 @@
 -- What the reader finds in a text, as its contracts say it: each stretch of lines is Bad, or has its values and the place behind it.
-use Rattle.std.specs.Prelude.{◌≡◌, List, ℕ, ◌≤◌, length, drop}
+use Rattle.std.specs.Prelude.{◌≡◌, List, ℕ, ◌≤◌, length, drop, Option, Some, None}
 use Rattle.octets.specs.Octets.{Bytes, big_endian}
 use Rattle.text.specs.Reading.{Read, failed, got}
 use Rattle.text.specs.Found.{bytes_in, Within}
@@ -8,18 +8,6 @@ use Rattle.form.specs.Form.{NamedValues, SettledValues, MovedValues, ArrivalValu
 use Rattle.form.specs.declared.lines.NamedLines.{NamedLines}
 use Rattle.form.specs.declared.lines.TermLines.{TermLines}
 use Rattle.form.specs.declared.lines.MovedLines.{MovedLines}
-use Rattle.form.specs.declared.lines.Named.{Named}
-use Rattle.form.specs.declared.lines.Named.TheVariants as named
-use Rattle.form.specs.declared.lines.Terms.{Terms}
-use Rattle.form.specs.declared.lines.Terms.TheVariants as terms
-use Rattle.form.specs.declared.lines.Settled.{Settled}
-use Rattle.form.specs.declared.lines.Settled.TheVariants as settled
-use Rattle.form.specs.declared.lines.Moved.{Moved}
-use Rattle.form.specs.declared.lines.Moved.TheVariants as moved
-use Rattle.form.specs.declared.lines.Refused.{Refused}
-use Rattle.form.specs.declared.lines.Refused.TheVariants as refused
-use Rattle.form.specs.declared.lines.Arrivals.{Arrivals}
-use Rattle.form.specs.declared.lines.Arrivals.TheVariants as arrivals
 use Rattle.form.specs.declared.reader.Lines.{Lines}
 
 -- ---- the values of lines, whose bytes in hex stand in the text
@@ -50,34 +38,34 @@ pub record MovedWithin (text : List ℕ) (v : MovedLines) : Type 0 where
 
 -- ---- what is found
 
-abbrev pub FindsNamed : List ℕ → Read NamedValues → Named → Type 0
-FindsNamed text read (named.Is v next) = (read ≡ got (named_values text v) (drop next text)) × (next ≤ length text) × NamedWithin text v
-FindsNamed text read named.Bad = read ≡ failed
+abbrev pub FindsNamed : List ℕ → Read NamedValues → Option (NamedLines × ℕ) → Type 0
+FindsNamed text read (Some (v, next)) = (read ≡ got (named_values text v) (drop next text)) × (next ≤ length text) × NamedWithin text v
+FindsNamed text read None = read ≡ failed
 
-abbrev pub FindsTerms : List ℕ → Read TermLines → Terms → Type 0
-FindsTerms text read (terms.Is v next) = (read ≡ got v (drop next text)) × (next ≤ length text)
-FindsTerms text read terms.Bad = read ≡ failed
+abbrev pub FindsTerms : List ℕ → Read TermLines → Option (TermLines × ℕ) → Type 0
+FindsTerms text read (Some (v, next)) = (read ≡ got v (drop next text)) × (next ≤ length text)
+FindsTerms text read None = read ≡ failed
 
-abbrev pub FindsSettled : List ℕ → Read SettledValues → Settled → Type 0
-FindsSettled text read (settled.Is v w next) = (read ≡ got (settled_values text v w) (drop next text)) × NamedWithin text v
-FindsSettled text read settled.Bad = read ≡ failed
+abbrev pub FindsSettled : List ℕ → Read SettledValues → Option (NamedLines × TermLines × ℕ) → Type 0
+FindsSettled text read (Some (v, w, next)) = (read ≡ got (settled_values text v w) (drop next text)) × NamedWithin text v
+FindsSettled text read None = read ≡ failed
 
-abbrev pub FindsMoved : List ℕ → Read MovedValues → Moved → Type 0
-FindsMoved text read (moved.Is v next) = (read ≡ got (moved_values text v) (drop next text)) × (next ≤ length text) × MovedWithin text v
-FindsMoved text read moved.Bad = read ≡ failed
+abbrev pub FindsMoved : List ℕ → Read MovedValues → Option (MovedLines × ℕ) → Type 0
+FindsMoved text read (Some (v, next)) = (read ≡ got (moved_values text v) (drop next text)) × (next ≤ length text) × MovedWithin text v
+FindsMoved text read None = read ≡ failed
 
-abbrev pub FindsCounters : List ℕ → Read Counters → Refused → Type 0
-FindsCounters text read (refused.Is v next) = (read ≡ got v (drop next text)) × (next ≤ length text)
-FindsCounters text read refused.Bad = read ≡ failed
+abbrev pub FindsCounters : List ℕ → Read Counters → Option (Counters × ℕ) → Type 0
+FindsCounters text read (Some (v, next)) = (read ≡ got v (drop next text)) × (next ≤ length text)
+FindsCounters text read None = read ≡ failed
 
-abbrev pub FindsArrivals : List ℕ → Read ArrivalValues → Arrivals → Type 0
-FindsArrivals text read (arrivals.Is v w next) = (read ≡ got (arrival_values text v w) (drop next text)) × (next ≤ length text) × MovedWithin text v
-FindsArrivals text read arrivals.Bad = read ≡ failed
+abbrev pub FindsArrivals : List ℕ → Read ArrivalValues → Option (MovedLines × Counters × ℕ) → Type 0
+FindsArrivals text read (Some (v, w, next)) = (read ≡ got (arrival_values text v w) (drop next text)) × (next ≤ length text) × MovedWithin text v
+FindsArrivals text read None = read ≡ failed
 
 -- the place behind the first stretch
-abbrev pub place_of : Settled → ℕ
-place_of (settled.Is v w next) = next
-place_of settled.Bad = 0
+abbrev pub place_of : Option (NamedLines × TermLines × ℕ) → ℕ
+place_of (Some (v, w, next)) = next
+place_of None = 0
 
 -- both stretches of a text, the second behind the first
 pub record LinesFound (text : List ℕ) (r : Lines) : Type 0 where

@@ -4,7 +4,8 @@ ghost use Rattle.form.specs.Form.{read_settled, read_arrivals};
 ghost use Rattle.form.specs.Found.{FindsSettled, FindsArrivals, LinesFound};
 
 use crate::lines;
-use crate::lines::{Arrivals, Settled};
+use crate::lines::{MovedLines, NamedLines, TermLines};
+use window::Counters;
 
 #[derive(Clone, Copy)]
 pub struct Reader<'a> {
@@ -15,8 +16,8 @@ pub struct Reader<'a> {
 // What a text was found to be, in two stretches.
 #[derive(Drop)]
 pub struct Lines {
-    pub settled: Settled,
-    pub arrivals: Arrivals,
+    pub settled: Option<(NamedLines, TermLines, usize)>,
+    pub arrivals: Option<(MovedLines, Counters, usize)>,
 }
 
 // A text is read: from its start what an install settled, and behind that the lines by the arrivals.
@@ -43,21 +44,24 @@ pub(crate) fn on<'a>(r: Reader<'a>, at: usize) -> Reader<'a>
 }
 
 // The lines that an install settled, at the reader's place.
-pub(crate) fn settled<'a>(r: Reader<'a>) -> Settled
+pub(crate) fn settled<'a>(r: Reader<'a>) -> Option<(NamedLines, TermLines, usize)>
     ensures { FindsSettled r.entry.text.now (read_settled (drop r.entry.at r.entry.text.now)) result }
 {
     lines::settled_at(r.text, r.at)
 }
 
 // The lines by the arrivals, at the reader's place.
-pub(crate) fn arrivals<'a>(r: Reader<'a>) -> Arrivals
+pub(crate) fn arrivals<'a>(r: Reader<'a>) -> Option<(MovedLines, Counters, usize)>
     ensures { FindsArrivals r.entry.text.now (read_arrivals (drop r.entry.at r.entry.text.now)) result }
 {
     lines::arrivals_at(r.text, r.at)
 }
 
 // Both stretches as one answer, put together by a function so that `read` is nothing but calls.
-fn joined(first: Settled, second: Arrivals) -> Lines
+fn joined(
+    first: Option<(NamedLines, TermLines, usize)>,
+    second: Option<(MovedLines, Counters, usize)>,
+) -> Lines
     ensures { result ≡ record { settled = first; arrivals = second } }
 {
     Lines {

@@ -10,8 +10,9 @@ use lib.Dec.{eqb}
 use lib.ListN.{length, get_or}
 use Rattle.numbers.proofs.Tests.{and_left, and_right, and_both, refuted}
 use Rattle.format.specs.KeyId.{length_asked}
-use Rattle.format.specs.KeyData.{KeyData, known, goes_with, sound_of}
+use Rattle.format.specs.KeyData.{KeyData, goes_with, sound_of}
 use Rattle.format.specs.Suite.{suite_of}
+use Rattle.std.specs.Prelude.{is_some}
 
 pub record Sound (k : KeyData) : Type 0 where
   pub flag_small : k.flag ≤ 1
@@ -19,7 +20,7 @@ pub record Sound (k : KeyData) : Type 0 where
   pub source_least : 4 ≤ length k.source
   pub source_most : length k.source ≤ 32
   pub key_length : length k.key ≡ 32
-  pub suite_known : known (suite_of k.suite) ≡ true
+  pub suite_known : is_some (suite_of k.suite) ≡ true
   pub edition_goes : goes_with k.edition k.suite ≡ true
   pub named : not (eqb k.flag 0 && eqb (get_or k.key_id 0 0) 0x80) ≡ true
 

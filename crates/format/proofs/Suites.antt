@@ -12,11 +12,11 @@ use Rattle.format.specs.Suite.{number_of, suites, numbered_in, suite_of, icv_len
 use Rattle.format.specs.Header.{least_message, fixed_bytes}
 use Rattle.format.specs.declared.suite.Suite.{Suite}
 use Rattle.format.specs.declared.suite.Suite.TheVariants.{MagmaCtr, MagmaNull, MagmaCtrLong, MagmaNullLong}
-use Rattle.format.specs.declared.suite.Numbered.TheVariants.{Known}
+use Rattle.std.specs.Prelude.{Some}
 
 -- ---- numbers
 
-pub number_suite : (s : Suite) → suite_of (number_of s) ≡ Known s
+pub number_suite : (s : Suite) → suite_of (number_of s) ≡ Some s
 unfolding suite_of
 number_suite MagmaCtr = refl
 number_suite MagmaNull = refl
@@ -33,16 +33,16 @@ pub number_byte : (s : Suite) → number_of s % 256 ≡ number_of s
 number_byte s = mod-eq_of_lt (number_lt s)
 
 -- a number's suite has that number
-number_in : (ss : List Suite) (cs : ℕ) (s : Suite) → Known s ≡ numbered_in ss cs → number_of s ≡ cs
+number_in : (ss : List Suite) (cs : ℕ) (s : Suite) → Some s ≡ numbered_in ss cs → number_of s ≡ cs
 number_in [] cs s = λ e. cc
 number_in (x ∷ xs) cs s = by (number_in xs cs s) (eqb cs (number_of x)) refl
   where
-    by : (Known s ≡ numbered_in xs cs → number_of s ≡ cs)
-        → (b : Bool) → eqb cs (number_of x) ≡ b → Known s ≡ cond b (Known x) (numbered_in xs cs) → number_of s ≡ cs
+    by : (Some s ≡ numbered_in xs cs → number_of s ≡ cs)
+        → (b : Bool) → eqb cs (number_of x) ≡ b → Some s ≡ cond b (Some x) (numbered_in xs cs) → number_of s ≡ cs
     by later true p e = let f : s ≡ x = cc in ap number_of f ∙ sym (eqb-true cs (number_of x) p)
     by later false p e = later e
 
-pub suite_number : (cs : ℕ) (s : Suite) → Known s ≡ suite_of cs → number_of s ≡ cs
+pub suite_number : (cs : ℕ) (s : Suite) → Some s ≡ suite_of cs → number_of s ≡ cs
 unfolding suite_of
 suite_number cs s = number_in suites cs s
 

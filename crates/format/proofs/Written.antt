@@ -12,11 +12,11 @@ use Rattle.format.specs.KeyId.{key_id_starting, length_asked}
 use Rattle.format.specs.Suite.{suite_of, number_of, icv_length_of}
 use Rattle.format.specs.Header.{greatest_message, fixed_bytes, read_of, header_bytes}
 use Rattle.format.specs.declared.header.Header.{Header}
-use Rattle.format.specs.declared.header.Parsed.TheVariants.{Read}
 use Rattle.format.specs.declared.suite.Suite.{Suite}
 use Rattle.format.proofs.Headers.{Begun, reads}
 use Rattle.format.proofs.KeyIds.{length_anywhere, length_least}
 use Rattle.format.proofs.Suites.{number_suite, number_byte, icv_least}
+use Rattle.std.specs.Prelude.{Ok}
 
 -- the header that stands for what is written
 abbrev pub header_for : ℕ → Suite → List ℕ → ℕ → Header
@@ -50,7 +50,7 @@ module _ (flag : ℕ) (s : Suite) (key_id : List ℕ) where
 
 pub read_written : (flag : ℕ) (s : Suite) (key_id : List ℕ) (seq_num : ℕ) (rest : List ℕ) → Writable flag key_id seq_num
     → icv_length_of s ≤ length rest → fixed_bytes + length key_id + length rest ≤ greatest_message
-    → read_of (header_bytes flag s key_id seq_num ++ rest) ≡ Read (header_for flag s key_id seq_num)
+    → read_of (header_bytes flag s key_id seq_num ++ rest) ≡ Ok (header_for flag s key_id seq_num)
 unfolding bytes_of
 read_written flag s key_id seq_num rest w enough short =
     let m = header_bytes flag s key_id seq_num ++ rest in
@@ -73,4 +73,4 @@ read_written flag s key_id seq_num rest w enough short =
     let before = bytes_of 2 (flag * 2 ^ 15) ++ bytes_of 1 (number_of s) ++ key_id in
     let number = number_there 6 seq_num (3 + length key_id) before rest (seqnum_place flag s key_id) w.number_small in
     sym (reads begun (omega arith) seq_num (sym number))
-    ∙ ap (λ (f : ℕ). Read (record { flag = f; suite = s; keyid = key_id_starting first 3; seqnum = seq_num })) same
+    ∙ ap (λ (f : ℕ). Ok (record { flag = f; suite = s; keyid = key_id_starting first 3; seqnum = seq_num })) same

@@ -1,16 +1,14 @@
 -- The header (01, "The message, big-endian", and replies 2 to 5): read from a message, and written for one.
-use Rattle.std.specs.Prelude.{cond, ◌||◌, List, ◌++◌, ℕ, ◌+◌, ◌-◌, ◌*◌, ◌/◌, ◌%◌, ◌^◌, eqb, ltb, length, get_or, drop}
+use Rattle.std.specs.Prelude.{cond, ◌||◌, List, ◌++◌, ℕ, ◌+◌, ◌-◌, ◌*◌, ◌/◌, ◌%◌, ◌^◌, eqb, ltb, length, get_or, drop, Err, None, Ok, Option, Result, Some}
 use Rattle.answers.specs.Answers.{bad_length, bad_version, bad_suite, too_short}
 use Rattle.octets.specs.Octets.{big_endian, bytes_of, part}
 use Rattle.format.specs.KeyId.{key_id_starting, length_of}
 use Rattle.format.specs.Suite.{suite_of, number_of, icv_length_of}
-use Rattle.format.specs.declared.header.Parsed.{Parsed}
 use Rattle.format.specs.declared.header.Header.{Header}
-use Rattle.format.specs.declared.header.Parsed.TheVariants.{Read, BadLength, BadVersion, BadSuite, TooShort}
 use Rattle.format.specs.declared.key_id.KeyId.{KeyId}
-use Rattle.format.specs.declared.suite.Numbered.{Numbered}
-use Rattle.format.specs.declared.suite.Numbered.TheVariants.{Known, Unknown}
 use Rattle.format.specs.declared.suite.Suite.{Suite}
+use Rattle.format.specs.declared.header.HeaderError.{HeaderError}
+use Rattle.format.specs.declared.header.HeaderError.TheVariants.{BadLength, BadVersion, BadSuite, TooShort}
 
 -- bytes of the shortest and of the longest message
 abbrev pub least_message : ℕ
@@ -44,21 +42,20 @@ abbrev pub seq_num_in : List ℕ → ℕ
 seq_num_in m = big_endian 6 (drop (3 + length_of (key_id_in m)) m)
 
 -- "5 means shorter than 9 + L + T" (02, No. 5), where T is the length of the suite's ICV
-abbrev pub read_as : Numbered → List ℕ → Parsed
-read_as Unknown m = BadSuite
-read_as (Known s) m =
-    cond (ltb (length m) (fixed_bytes + length_of (key_id_in m) + icv_length_of s)) TooShort
-    (Read (record { flag = flag_in m; suite = s; keyid = key_id_in m; seqnum = seq_num_in m }))
+abbrev pub read_as : Option Suite → List ℕ → Result Header HeaderError
+read_as None m = Err BadSuite
+read_as (Some s) m =
+    cond (ltb (length m) (fixed_bytes + length_of (key_id_in m) + icv_length_of s)) (Err TooShort)
+    (Ok (record { flag = flag_in m; suite = s; keyid = key_id_in m; seqnum = seq_num_in m }))
 
 -- in the order of the replies 2, 3, 4 and 5
-unfoldable pub read_of : List ℕ → Parsed
+unfoldable pub read_of : List ℕ → Result Header HeaderError
 read_of m =
-    cond (ltb (length m) least_message || ltb greatest_message (length m)) BadLength
-    (cond (eqb (version_in m) 0) (read_as (suite_of (cs_in m)) m) BadVersion)
+    cond (ltb (length m) least_message || ltb greatest_message (length m)) (Err BadLength)
+    (cond (eqb (version_in m) 0) (read_as (suite_of (cs_in m)) m) (Err BadVersion))
 
 -- the reply to a header that cannot be read
-abbrev pub refusal_of : Parsed → ℕ
-refusal_of (Read h) = 0
+abbrev pub refusal_of : HeaderError → ℕ
 refusal_of BadLength = bad_length
 refusal_of BadVersion = bad_version
 refusal_of BadSuite = bad_suite

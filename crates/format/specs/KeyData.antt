@@ -1,12 +1,10 @@
 -- Key data (01, "The message, big-endian": "Key data is sound when L is what the first byte asks; the SourceIdentifier has 4 to 32 bytes; the
 -- base key has 32; the suite is 1 or 2; flag 0 does not go with KeyId 80"). A flag is a byte here, and one over 1 is unsound. 02, No. 4: "Key data
 -- gets an edition"; No. 5: "the soundness rule now admit[s] 241 and 242".
-use Rattle.std.specs.Prelude.{Bool, true, false, ◌&&◌, ◌||◌, not, List, ℕ, eqb, leb, length, get_or}
+use Rattle.std.specs.Prelude.{Bool, ◌&&◌, ◌||◌, not, List, ℕ, eqb, leb, length, get_or, is_some}
 use Rattle.format.specs.KeyId.{length_asked}
 use Rattle.format.specs.Suite.{suite_of}
 use Rattle.format.specs.declared.key_data.Terms.{Terms}
-use Rattle.format.specs.declared.suite.Numbered.{Numbered}
-use Rattle.format.specs.declared.suite.Numbered.TheVariants.{Known, Unknown}
 
 -- "An entry has: flag, KeyId bytes, SourceIdentifier, suite, 32-byte base key, .. A sender's record has the first five": these five, and an edition
 pub record KeyData : Type 0 where
@@ -26,10 +24,6 @@ handed_in flag key_id source suite edition key =
 abbrev pub keyed : Terms → List ℕ → List ℕ → List ℕ → KeyData
 keyed terms key_id source key = handed_in terms.flag key_id source terms.suite terms.edition key
 
-abbrev pub known : Numbered → Bool
-known (Known s) = true
-known Unknown = false
-
 -- "an edition, 1 for these and 2 for the rule in 01. Edition 1 is sound only with suite 1."
 abbrev pub goes_with : ℕ → ℕ → Bool
 goes_with edition suite = eqb edition 2 || (eqb edition 1 && eqb suite 1)
@@ -41,6 +35,6 @@ sound_of k =
     && leb 4 (length k.source)
     && leb (length k.source) 32
     && eqb (length k.key) 32
-    && known (suite_of k.suite)
+    && is_some (suite_of k.suite)
     && goes_with k.edition k.suite
     && not (eqb k.flag 0 && eqb (get_or k.key_id 0 0) 0x80)

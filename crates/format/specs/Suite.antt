@@ -1,10 +1,8 @@
 -- Suites (01, "Suites and derived keys": "Each suite has its own ICV length, label and block count."; 02, No. 5: "241 is suite 1 and 242 is suite 2, with
 -- an ICV of 8 bytes and their own number as CS, in the derivation too").
-use Rattle.std.specs.Prelude.{Bool, true, false, cond, List, [], ◌∷◌, ℕ, ◌*◌, ◌/◌, eqb}
+use Rattle.std.specs.Prelude.{Bool, true, false, cond, List, [], ◌∷◌, ℕ, ◌*◌, ◌/◌, eqb, None, Option, Some}
 use Rattle.format.specs.declared.suite.Suite.{Suite}
 use Rattle.format.specs.declared.suite.Suite.TheVariants.{MagmaCtr, MagmaNull, MagmaCtrLong, MagmaNullLong}
-use Rattle.format.specs.declared.suite.Numbered.{Numbered}
-use Rattle.format.specs.declared.suite.Numbered.TheVariants.{Known, Unknown}
 
 -- CS: MAGMA-CTR-CMAC, MAGMA-NULL-CMAC, and the two with a long ICV
 abbrev pub number_of : Suite → ℕ
@@ -17,11 +15,11 @@ abbrev pub suites : List Suite
 suites = MagmaCtr ∷ MagmaNull ∷ MagmaCtrLong ∷ MagmaNullLong ∷ []
 
 -- the first of some suites with that number
-abbrev pub numbered_in : List Suite → ℕ → Numbered
-numbered_in [] cs = Unknown
-numbered_in (s ∷ ss) cs = cond (eqb cs (number_of s)) (Known s) (numbered_in ss cs)
+abbrev pub numbered_in : List Suite → ℕ → Option Suite
+numbered_in [] cs = None
+numbered_in (s ∷ ss) cs = cond (eqb cs (number_of s)) (Some s) (numbered_in ss cs)
 
-unfoldable pub suite_of : ℕ → Numbered
+unfoldable pub suite_of : ℕ → Option Suite
 suite_of cs = numbered_in suites cs
 
 -- bytes of an ICV

@@ -1,10 +1,12 @@
 // The header of a message, read and written.
 ghost use Rattle.std.specs.Prelude.{◌≡◌, ◌+◌, ◌<◌, ◌≤◌, length};
 ghost use Rattle.octets.specs.Octets.{put};
+ghost use Rattle.answers.specs.Answers.{refusal_number};
 ghost use Rattle.format.specs.Header.{read_of, refusal_of, header_bytes, fixed_bytes};
 
 use crate::key_id::KeyId;
-use crate::suite::{Numbered, Suite};
+use crate::suite::Suite;
+use answers::Refusal;
 
 // Bytes of the shortest and of the longest message.
 pub const LEAST: usize = 14;
@@ -32,10 +34,9 @@ pub struct Header {
     pub seqnum: u64,
 }
 
-// What reading a message's header finds: the header, or why there is none.
-#[derive(Drop)]
-pub enum Parsed {
-    Read(Header),
+// Why a message has no header.
+#[derive(Clone, Copy, Debug, PartialEq, Eq)]
+pub enum HeaderError {
     BadLength,
     BadVersion,
     BadSuite,
@@ -43,29 +44,25 @@ pub enum Parsed {
 }
 
 // The header of a message, whatever its bytes.
-pub fn read_header(message: &[u8]) -> Parsed
+pub fn read_header(message: &[u8]) -> Result<Header, HeaderError>
     ensures { result ≡ read_of message.now }
 {
-    if message.len() < LEAST {
-        return Parsed::BadLength;
-    }
-    if GREATEST < message.len() {
-        return Parsed::BadLength;
+    if message.len() < LEAST || GREATEST < message.len() {
+        return Err(HeaderError::BadLength);
     }
     let front = octets::read(message, 0, SUITE_AT);
     if front % FLAG != 0 {
-        return Parsed::BadVersion;
+        return Err(HeaderError::BadVersion);
     }
-    let numbered = Suite::numbered(message[SUITE_AT]);
-    let Numbered::Known(suite) = numbered else {
-        return Parsed::BadSuite;
+    let Some(suite) = Suite::numbered(message[SUITE_AT]) else {
+        return Err(HeaderError::BadSuite);
     };
     let keyid = KeyId::starting(message[KEYID_AT], KEYID_AT);
     let at = KEYID_AT + keyid.length();
     if message.len() < at + SEQNUM + suite.icv_length() {
-        return Parsed::TooShort;
+        return Err(HeaderError::TooShort);
     }
-    Parsed::Read(Header {
+    Ok(Header {
         flag: (front / FLAG) as u8,
         suite: suite,
         keyid: keyid,
@@ -73,16 +70,16 @@ pub fn read_header(message: &[u8]) -> Parsed
     })
 }
 
-// The reply to a header that cannot be read.
-pub fn refusal(parsed: Parsed) -> u64
-    ensures { result ≡ refusal_of parsed }
-{
-    match parsed {
-        Parsed::Read(_) => answers::DONE,
-        Parsed::BadLength => answers::BAD_LENGTH,
-        Parsed::BadVersion => answers::BAD_VERSION,
-        Parsed::BadSuite => answers::BAD_SUITE,
-        Parsed::TooShort => answers::TOO_SHORT,
+impl From<HeaderError> for Refusal {
+    ghost from_gives = { λ why refusal. refusal_number refusal ≡ refusal_of why };
+
+    fn from(why: HeaderError) -> Refusal {
+        match why {
+            HeaderError::BadLength => Refusal::BadLength,
+            HeaderError::BadVersion => Refusal::BadVersion,
+            HeaderError::BadSuite => Refusal::BadSuite,
+            HeaderError::TooShort => Refusal::TooShort,
+        }
     }
 }
 

@@ -3,7 +3,7 @@ ghost use Rattle.std.specs.Prelude.{◌≡◌};
 ghost use Rattle.format.specs.KeyData.{keyed, goes_with, sound_of};
 
 use crate::key_id::KeyId;
-use crate::suite::{Numbered, Suite};
+use crate::suite::Suite;
 
 // Bytes of the longest KeyId, of the shortest and of the longest SourceIdentifier, and of a base key.
 pub const GREATEST_KEYID: usize = 128;
@@ -55,10 +55,9 @@ pub fn sound(terms: Terms, keyid: &[u8], source: &[u8], key: &[u8]) -> bool
     if key.len() != KEY {
         return false;
     }
-    let numbered = Suite::numbered(terms.suite);
-    let Numbered::Known(_) = numbered else {
+    if Suite::numbered(terms.suite).is_none() {
         return false;
-    };
+    }
     if !goes_with(terms.edition, terms.suite) {
         return false;
     }

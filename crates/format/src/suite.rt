@@ -5,19 +5,12 @@ ghost use Rattle.format.specs.Suite.{suite_of, number_of, icv_length_of, enciphe
 use crate::key_data;
 
 // MagmaCtr is MAGMA-CTR-CMAC, MagmaNull is MAGMA-NULL-CMAC; the long ones are house suites, with an ICV of a whole block and numbers of their own.
-#[derive(Clone, Copy)]
+#[derive(Clone, Copy, PartialEq, Eq)]
 pub enum Suite {
     MagmaCtr,
     MagmaNull,
     MagmaCtrLong,
     MagmaNullLong,
-}
-
-// What a suite number stands for.
-#[derive(Drop)]
-pub enum Numbered {
-    Known(Suite),
-    Unknown,
 }
 
 impl Suite {
@@ -37,16 +30,16 @@ impl Suite {
     // Bytes of a block of Magma.
     const MAGMA_BLOCK: usize = 8;
 
-    // The suite with that number.
-    pub fn numbered(cs: u8) -> Numbered
+    // The suite with that number, if there is one.
+    pub fn numbered(cs: u8) -> Option<Suite>
         ensures { result ≡ suite_of cs }
     {
         match cs {
-            Suite::MAGMA_CTR => Numbered::Known(Suite::MagmaCtr),
-            Suite::MAGMA_NULL => Numbered::Known(Suite::MagmaNull),
-            Suite::MAGMA_CTR_LONG => Numbered::Known(Suite::MagmaCtrLong),
-            Suite::MAGMA_NULL_LONG => Numbered::Known(Suite::MagmaNullLong),
-            _ => Numbered::Unknown,
+            Suite::MAGMA_CTR => Some(Suite::MagmaCtr),
+            Suite::MAGMA_NULL => Some(Suite::MagmaNull),
+            Suite::MAGMA_CTR_LONG => Some(Suite::MagmaCtrLong),
+            Suite::MAGMA_NULL_LONG => Some(Suite::MagmaNullLong),
+            _ => None,
         }
     }
 

@@ -16,11 +16,8 @@ use Rattle.window.specs.declared.Verdict.{Verdict}
 use Rattle.window.specs.declared.Verdict.TheVariants.{Below, Marked, Admissible}
 use Rattle.format.specs.Header.{read_of, key_id_bytes, payload_length, least_message}
 use Rattle.message.specs.Sealing.{right}
-use Rattle.message.specs.declared.sealing.Opened.TheVariants.{Payload, Wrong}
 use Rattle.format.specs.Suite.{number_of}
 use Rattle.format.specs.declared.header.Header.{Header}
-use Rattle.format.specs.declared.header.Parsed.{Parsed}
-use Rattle.format.specs.declared.header.Parsed.TheVariants.{Read, BadLength, BadVersion, BadSuite, TooShort}
 use Rattle.format.proofs.KeyIds.{length_least}
 use Rattle.format.proofs.Room.{read_room, payload_most}
 use Rattle.format.proofs.Suites.{icv_least}
@@ -32,9 +29,10 @@ use Rattle.slots.proofs.Settled.{settled_rewritten}
 use Rattle.gateway.specs.Receive.{Received, received, parsed, led, arrived, judged, checked, unsealed, handed_out, kept, counter_of, turned_away}
 use Rattle.slots.specs.Record.{undamaged}
 use Rattle.slots.specs.Table.{slot_of, entry_of, cs_of, window_of, table_length, key_data_of}
-use Rattle.lookup.specs.declared.Found.{Found}
-use Rattle.lookup.specs.declared.Found.TheVariants.{At, Nothing}
 use Rattle.gateway.proofs.Arrivals.{Led, counter_within}
+use Rattle.std.specs.Prelude.{Err, None, Ok, Option, Result, Some}
+use Rattle.format.specs.declared.header.HeaderError.{HeaderError}
+use Rattle.format.specs.declared.header.HeaderError.TheVariants.{BadLength, BadVersion, BadSuite, TooShort}
 
 module _ (P : Received → Type 0) (t out : List ℕ) where
   -- at a slot
@@ -45,7 +43,7 @@ module _ (P : Received → Type 0) (t out : List ℕ) where
     by_verdict Marked = turned repeated (lit≤ tt) (lit≤ tt)
     by_verdict Admissible = by_icv (right h (key_data_of (slot_of t i)) m)
       where
-        by_icv : (icv : Bool) → P (unsealed (cond icv (Payload (payload_length h m)) Wrong) t i h m out)
+        by_icv : (icv : Bool) → P (unsealed (cond icv (Some (payload_length h m)) None) t i h m out)
         by_icv true = done
         by_icv false = turned wrong_icv (lit≤ tt) (lit≤ tt)
 
@@ -69,16 +67,16 @@ module _ (P : Received → Type 0) (t out : List ℕ) where
         (turned : (h : Header) (i : ℕ) → Led t m source out h i → undamaged (slot_of t i) ≡ true → (n : ℕ) → 9 ≤ n → n ≤ 11 → P (turned_away t i out n))
         (done : (h : Header) (i : ℕ) → Led t m source out h i → undamaged (slot_of t i) ≡ true → P (handed_out (payload_length h m) t i h m out)) where
       module _ (room : output_room ≤ length out) where
-        of_led : (h : Header) → read_of m ≡ Read h → (f : Found) → leads_to t h.flag (key_id_bytes h m) source ≡ f → P (led f t h m out)
-        of_led h read Nothing l = refused no_entry (lit≤ tt) (lit< tt)
-        of_led h read (At i) l = let there : Led t m source out h i = record { room = room; read = read; found = l } in of_arrived i h m (turned h i there) (done h i there)
+        of_led : (h : Header) → read_of m ≡ Ok h → (f : Option ℕ) → leads_to t h.flag (key_id_bytes h m) source ≡ f → P (led f t h m out)
+        of_led h read None l = refused no_entry (lit≤ tt) (lit< tt)
+        of_led h read (Some i) l = let there : Led t m source out h i = record { room = room; read = read; found = l } in of_arrived i h m (turned h i there) (done h i there)
 
-        of_parsed : (p : Parsed) → read_of m ≡ p → P (parsed p t m source out)
-        of_parsed (Read h) e = of_led h e (leads_to t h.flag (key_id_bytes h m) source) refl
-        of_parsed BadLength e = refused bad_length (lit≤ tt) (lit< tt)
-        of_parsed BadVersion e = refused bad_version (lit≤ tt) (lit< tt)
-        of_parsed BadSuite e = refused bad_suite (lit≤ tt) (lit< tt)
-        of_parsed TooShort e = refused too_short (lit≤ tt) (lit< tt)
+        of_parsed : (p : Result Header HeaderError) → read_of m ≡ p → P (parsed p t m source out)
+        of_parsed (Ok h) e = of_led h e (leads_to t h.flag (key_id_bytes h m) source) refl
+        of_parsed (Err BadLength) e = refused bad_length (lit≤ tt) (lit< tt)
+        of_parsed (Err BadVersion) e = refused bad_version (lit≤ tt) (lit< tt)
+        of_parsed (Err BadSuite) e = refused bad_suite (lit≤ tt) (lit< tt)
+        of_parsed (Err TooShort) e = refused too_short (lit≤ tt) (lit< tt)
 
       pub of_received : P (received t m source out)
       unfolding received

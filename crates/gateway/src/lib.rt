@@ -13,5 +13,5 @@ mod receiving; // receiving.rt: an arrival, step by step
 pub fn receive(table: &mut [u8; TABLE], message: &[u8], source: &[u8], out: &mut [u8]) -> Answer
     ensures { IsReceived (received table.old message.now source.now out.old) result table.new out.new }
 {
-    receiving::receive_in(table, message, source, out)
+    receiving::receive_in(table, message, source, out).into()
 }

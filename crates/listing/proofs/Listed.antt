@@ -1,12 +1,11 @@
 -- What a listing comes to: each refusal by its own test, the lines of an entry, and that they fit the output.
 -- Assumes nothing.
-use mathlib.Core.Path.{◌≡◌, refl, sym, ap, ◌∙◌}
+use mathlib.Core.Path.{◌≡◌, refl, ap}
 use mathlib.Core.Bool.{true, false, and-false}
 use mathlib.Core.List.{List}
 use Prim.Native.Nat.{ℕ, ◌*◌, ◌≤◌, ◌<◌}
-use native.Mathlib.Nat.{add-zero}
 use native.Mathlib.Omega.{arith}
-use borrow.Author.Tests.{lt-ltb, le-ltb, ltb-false, eq-eqb, ne_eqb}
+use borrow.Author.Tests.{lt-ltb, le-ltb, ltb-false, ne_eqb}
 use lib.Dec.{ltb}
 use lib.ListN.{length, get_or, drop, length-append, length-take, length-drop}
 use Rattle.octets.specs.Octets.{bytes_of, part, put}
@@ -14,12 +13,11 @@ use Rattle.numbers.proofs.Tests.{either}
 use Rattle.octets.proofs.BigEndian.{length_bytes}
 use Rattle.answers.specs.Answers.{refused, output_room, output_small, damaged, no_slot}
 use Rattle.answers.specs.declared.Answer.{Answer}
-use Rattle.slots.specs.Table.{slot_of, flag_of, cs_of, edition_of, key_id_length_of, key_id_of, source_length_of, source_of, entry_of, slot_length, slot_count, occupied_at, key_id_at, source_at, is_held}
+use Rattle.slots.specs.Table.{slot_of, occupied, flag_of, cs_of, edition_of, key_id_length_of, key_id_of, source_length_of, source_of, entry_of, slot_length, slot_count, occupied_at, key_id_at, source_at, is_held}
 use Rattle.slots.specs.Record.{undamaged}
 use Rattle.listing.specs.Listing.{named_lines, term_lines, moved_lines, counter_lines, listing_of, Listed, IsListed, listed}
 use Rattle.text.proofs.Decimals.{length_decimal}
 use Rattle.text.proofs.Hex.{length_hex}
-use Rattle.slots.proofs.Slots.{lent, slot_lent, slot_byte}
 
 module _ (t : List ℕ) (i : ℕ) (out : List ℕ) where
   pub little_room : {r : Answer} → length out < output_room → r ≡ refused output_small → IsListed (listed t i out) r out
@@ -32,31 +30,21 @@ module _ (t : List ℕ) (i : ℕ) (out : List ℕ) where
     past_last_slot h e = rw (le-ltb (length out) output_room room, le-ltb i slot_count h) (record { answers = e; writes = refl })
 
     module _ (small : i < slot_count) where
-      first : get_or (slot_of t i) occupied_at 0 ≡ get_or t (slot_length * i) 0
-      first = slot_byte t i occupied_at (omega arith) ∙ rw add-zero
-
-      pub free_slot : {r : Answer} → get_or t (slot_length * i) 0 ≡ 0 → r ≡ refused no_slot → IsListed (listed t i out) r out
+      pub free_slot : {r : Answer} → occupied (slot_of t i) ≡ false → r ≡ refused no_slot → IsListed (listed t i out) r out
       unfolding listed
-      free_slot h e = rw (le-ltb (length out) output_room room, eq-eqb (get_or (slot_of t i) occupied_at 0) 0 (first ∙ h), and-false) (record { answers = e; writes = refl })
+      free_slot h e = rw (le-ltb (length out) output_room room, h, and-false) (record { answers = e; writes = refl })
 
-      module _ (taken : get_or t (slot_length * i) 0 ≡ 0 → ⊥) where
-        busy : get_or (slot_of t i) occupied_at 0 ≡ 0 → ⊥
-        busy z = taken (sym first ∙ z)
-
-        pub listing_damaged : {r : Answer} → undamaged (lent t i) ≡ false → r ≡ refused damaged → IsListed (listed t i out) r out
+      module _ (busy : occupied (slot_of t i) ≡ true) where
+        pub listing_damaged : {r : Answer} → undamaged (slot_of t i) ≡ false → r ≡ refused damaged → IsListed (listed t i out) r out
         unfolding listed
-        listing_damaged u e =
-            rw (le-ltb (length out) output_room room, lt-ltb i slot_count small, ne_eqb (get_or (slot_of t i) occupied_at 0) 0 busy, rw (slot_lent t i) at u) (record { answers = e; writes = refl })
+        listing_damaged u e = rw (le-ltb (length out) output_room room, lt-ltb i slot_count small, busy, u) (record { answers = e; writes = refl })
 
-        pub all_written : {o : List ℕ} {e : ℕ} → undamaged (lent t i) ≡ true → e ≡ length (listing_of i (lent t i)) → o ≡ put out 0 (listing_of i (lent t i))
+        pub all_written : {o : List ℕ} {e : ℕ} → undamaged (slot_of t i) ≡ true → e ≡ length (listing_of i (slot_of t i)) → o ≡ put out 0 (listing_of i (slot_of t i))
             → IsListed (listed t i out) (record { reply = 0; length = e; slot = i; seqnum = 0 }) o
         unfolding listed
         all_written {o} {e} u n w =
-            rw (le-ltb (length out) output_room room, lt-ltb i slot_count small, ne_eqb (get_or (slot_of t i) occupied_at 0) 0 busy, rw (slot_lent t i) at u)
-            (record {
-              answers = ap (λ (m : ℕ). record { reply = 0; length = m; slot = i; seqnum = 0 }) (rw (slot_lent t i) at n);
-              writes = rw (slot_lent t i) at w;
-            })
+            rw (le-ltb (length out) output_room room, lt-ltb i slot_count small, busy, u)
+            (record { answers = ap (λ (m : ℕ). record { reply = 0; length = m; slot = i; seqnum = 0 }) n; writes = w })
 
 -- an occupied, undamaged slot is listed
 pub lists : (t : List ℕ) (i : ℕ) (out : List ℕ) → output_room ≤ length out → i < slot_count → (get_or (slot_of t i) occupied_at 0 ≡ 0 → ⊥) → undamaged (slot_of t i) ≡ true

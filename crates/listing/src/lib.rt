@@ -3,48 +3,47 @@
 
 ghost use Rattle.std.specs.Prelude.{true, ◌≡◌, ◌+◌, ◌≤◌, length};
 ghost use Rattle.octets.specs.Octets.{put};
-ghost use Rattle.answers.specs.Answers.{output_room};
-ghost use Rattle.slots.specs.Table.{slot_length, table_length};
+ghost use Rattle.answers.specs.Answers.{answer_of, output_room};
+ghost use Rattle.slots.specs.Table.{slot_length};
 ghost use Rattle.slots.specs.Record.{undamaged};
 ghost use Rattle.listing.specs.Listing.{named_lines, term_lines, moved_lines, counter_lines, listing_of, IsListed, listed};
 
-use answers::Answer;
+use answers::{Answer, Done, Refusal};
+use slots::index::SlotIndex;
+use slots::layout;
 use slots::layout::TABLE;
-use slots::{layout, record};
+use slots::record::Slot;
 
 // The listing of the entry in a slot, from `slot=` to `forged=`, is written at the start of the output; the answer has its length. Refuses with
 // 1 (output under 2,048 bytes), 16 (slot over 15, or free) and 7 (record damaged), in that order.
 pub fn listing(table: &[u8; TABLE], slot: usize, out: &mut [u8]) -> Answer
     ensures { IsListed (listed table.now slot out.old) result out.new }
 {
-    list_in(table, slot, out)
+    list_in(table, slot, out).into()
 }
 
-// The same on a slice.
-fn list_in(table: &[u8], slot: usize, out: &mut [u8]) -> Answer
-    requires { length table.now ≡ table_length }
-    ensures { IsListed (listed table.now slot out.old) result out.new }
+// The same with the refusals by name.
+fn list_in(table: &[u8; TABLE], slot: usize, out: &mut [u8]) -> Result<Done, Refusal>
+    ensures { IsListed (listed table.now slot out.old) (answer_of result) out.new }
 {
     if out.len() < answers::OUTPUT {
-        return answers::refuse(answers::OUTPUT_SMALL);
+        return Err(Refusal::OutputSmall);
     }
-    if layout::SLOTS <= slot {
-        return answers::refuse(answers::NO_SLOT);
+    let Some(index) = SlotIndex::new(slot) else {
+        return Err(Refusal::NoSlot);
+    };
+    let held = Slot::at(table, index);
+    if !held.is_occupied() {
+        return Err(Refusal::NoSlot);
     }
-    let at = layout::SLOT * slot;
-    if table[at] == 0 {
-        return answers::refuse(answers::NO_SLOT);
+    if !held.is_undamaged() {
+        return Err(Refusal::Damaged);
     }
-    let end = at + layout::SLOT;
-    if !record::is_undamaged(&table[at..end]) {
-        return answers::refuse(answers::DAMAGED);
-    }
-    Answer {
-        reply: answers::DONE,
-        length: write_lines(slot, &table[at..end], out),
-        slot: slot,
+    Ok(Done {
+        length: write_lines(slot, held.content(), out),
+        slot,
         seqnum: 0,
-    }
+    })
 }
 
 // The lines of an entry. Answers where they end.

@@ -1,6 +1,6 @@
 -- What a load comes to: each refusal by its own test, and the entry that takes window, totals and counters.
 -- Assumes nothing.
-use mathlib.Core.Path.{◌≡◌, refl, sym, ap, ◌∙◌}
+use mathlib.Core.Path.{◌≡◌, refl}
 use mathlib.Core.Bool.{true, false, and-false}
 use mathlib.Core.List.{List}
 use mathlib.Core.Option.{none, some}
@@ -13,19 +13,17 @@ use Rattle.format.specs.KeyData.{sound_of}
 use Rattle.window.specs.Entry.{undamaged_entry}
 use Rattle.window.specs.declared.Counters.{Counters}
 use Rattle.slots.specs.Table.{slot_of, key_data_of, restored, slot_count}
-use Rattle.slots.proofs.Slots.{lent, slot_lent}
 use Rattle.entries.specs.Install.{IsLeft, done_at}
 use Rattle.form.specs.Form.{Listing, listing_in}
 use Rattle.form.specs.Found.{LinesFound}
 use Rattle.form.specs.declared.lines.NamedLines.{NamedLines}
 use Rattle.form.specs.declared.lines.TermLines.{TermLines}
 use Rattle.form.specs.declared.lines.MovedLines.{MovedLines}
-use Rattle.form.specs.declared.lines.Settled.TheVariants as settled
-use Rattle.form.specs.declared.lines.Arrivals.TheVariants as arrivals
 use Rattle.form.specs.declared.reader.Lines.{Lines}
 use Rattle.form.proofs.Halves.{first_is, second_is}
 use Rattle.form.proofs.Stretches.{more_behind}
 use Rattle.loading.specs.Load.{stands, listed_entry, taken_up, loaded}
+use Rattle.std.specs.Prelude.{Some}
 
 -- ---- in the table
 
@@ -38,29 +36,23 @@ module _ (t : List ℕ) (l : Listing) where
   past_last_slot h e = rw (le-ltb slot slot_count h) (record { answers = e; leaves = refl })
 
   module _ (small : slot < slot_count) where
-    pub no_such_entry : {r : Answer} → stands l.settled (lent t slot) ≡ false → r ≡ refused not_standing → IsLeft (taken_up t l) r t
+    pub no_such_entry : {r : Answer} → stands l.settled (slot_of t slot) ≡ false → r ≡ refused not_standing → IsLeft (taken_up t l) r t
     unfolding taken_up
-    no_such_entry h e = rw (rw (slot_lent t slot) at h, and-false) (record { answers = e; leaves = refl })
+    no_such_entry h e = rw (h, and-false) (record { answers = e; leaves = refl })
 
-    module _ (standing : stands l.settled (lent t slot) ≡ true) where
-      here : stands l.settled (slot_of t slot) ≡ true
-      here = rw (slot_lent t slot) at standing
-
-      sound_here : sound_of (key_data_of (slot_of t slot)) ≡ sound_of (key_data_of (lent t slot))
-      sound_here = ap (λ (s : List ℕ). sound_of (key_data_of s)) (sym (slot_lent t slot))
-
-      pub unsound : {r : Answer} → sound_of (key_data_of (lent t slot)) ≡ false → r ≡ refused would_be_damaged → IsLeft (taken_up t l) r t
+    module _ (standing : stands l.settled (slot_of t slot) ≡ true) where
+      pub unsound : {r : Answer} → sound_of (key_data_of (slot_of t slot)) ≡ false → r ≡ refused would_be_damaged → IsLeft (taken_up t l) r t
       unfolding taken_up
-      unsound h e = rw (lt-ltb slot slot_count small, here, sound_here ∙ h) (record { answers = e; leaves = refl })
+      unsound h e = rw (lt-ltb slot slot_count small, standing, h) (record { answers = e; leaves = refl })
 
       pub unfit : {r : Answer} → undamaged_entry (listed_entry l) ≡ false → r ≡ refused would_be_damaged → IsLeft (taken_up t l) r t
       unfolding taken_up
-      unfit h e = rw (lt-ltb slot slot_count small, here, h, and-false) (record { answers = e; leaves = refl })
+      unfit h e = rw (lt-ltb slot slot_count small, standing, h, and-false) (record { answers = e; leaves = refl })
 
-      pub takes_listed : {o : List ℕ} → sound_of (key_data_of (lent t slot)) ≡ true → undamaged_entry (listed_entry l) ≡ true
+      pub takes_listed : {o : List ℕ} → sound_of (key_data_of (slot_of t slot)) ≡ true → undamaged_entry (listed_entry l) ≡ true
           → o ≡ restored t slot (listed_entry l) → IsLeft (taken_up t l) (done_at slot) o
       unfolding taken_up
-      takes_listed h k e = rw (lt-ltb slot slot_count small, here, sound_here ∙ h, k) (record { answers = refl; leaves = e })
+      takes_listed h k e = rw (lt-ltb slot slot_count small, standing, h, k) (record { answers = refl; leaves = e })
 
   -- the same as one equation
   pub takes_up : slot < slot_count → stands l.settled (slot_of t slot) ≡ true → sound_of (key_data_of (slot_of t slot)) ≡ true → undamaged_entry (listed_entry l) ≡ true
@@ -81,7 +73,7 @@ module _ (t text : List ℕ) where
 
   -- lines that are all in their form, with more behind them, from what the reader found and the code has tested
   pub more_refused : {r : Lines} {named : NamedLines} {terms : TermLines} {moved : MovedLines} {counters : Counters} {next end : ℕ} {a : Answer}
-      → LinesFound text r → r.settled ≡ settled.Is named terms next → r.arrivals ≡ arrivals.Is moved counters end
+      → LinesFound text r → r.settled ≡ Some (named, terms, next) → r.arrivals ≡ Some (moved, counters, end)
       → (end ≡ length text → ⊥) → a ≡ refused bad_text → IsLeft (loaded t text) a t
   more_refused {r} {named} {terms} {moved} {counters} {next} {end} found first second other e =
       let head = first_is text r found named terms next first in

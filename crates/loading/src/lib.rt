@@ -14,5 +14,5 @@ mod taking; // taking.rt: the entry that a listing names, and what it takes
 pub fn load(table: &mut [u8; TABLE], text: &[u8]) -> Answer
     ensures { IsLeft (loaded table.old text.now) result table.new }
 {
-    taking::load_in(table, text)
+    taking::load_in(table, text).into()
 }

@@ -1,8 +1,8 @@
 // Magma, the cipher of GOST R 34.12-2015 with blocks of 64 bits. `specs/Magma.antt` says what it is.
 #![tactic(auto)]
 
-ghost use Rattle.std.specs.Prelude.{◌≡◌, ◌<◌, reverse, length};
-ghost use Rattle.magma.specs.Magma.{pi, nibble_for, substituted, turned, swapping, through, encrypted, key_words};
+ghost use Rattle.std.specs.Prelude.{◌≡◌, reverse, length};
+ghost use Rattle.magma.specs.Magma.{pi, substituted, turned, swapping, through, encrypted, key_words};
 
 // Row r says what becomes of the nibble of value 16^r.
 const PI: [[u8; 16]; 8] = [
@@ -16,8 +16,11 @@ const PI: [[u8; 16]; 8] = [
     [1, 7, 14, 13, 0, 5, 8, 3, 4, 15, 10, 6, 9, 12, 11, 2],
 ];
 
+// The rows of the substitution, lent to the rounds: each use of the constant copies it.
+type Rows = [[u8; 16]; 8];
+
 // A block between two rounds.
-#[derive(Drop)]
+#[derive(Clone, Copy)]
 pub struct Halves {
     pub high: u32,
     pub low: u32,
@@ -27,12 +30,11 @@ pub struct Halves {
 pub fn encrypt(key: &[u32; 8], block: u64) -> u64
     ensures { result ≡ encrypted key.now block }
 {
-    let rows = table();
-    run(&rows, key, block)
+    run(&table(), key, block)
 }
 
-// The rows of the substitution, to be taken once a block and lent: each use of a constant copies it.
-pub fn table() -> [[u8; 16]; 8]
+// The rows of the substitution, to be taken once a block.
+pub fn table() -> Rows
     ensures { result ≡ pi }
 {
     PI
@@ -43,101 +45,79 @@ pub fn key_words(bytes: &[u8]) -> [u32; 8]
     requires { length bytes.now ≡ 32 }
     ensures { result ≡ key_words bytes.now }
 {
-    let mut words = [0u32; 8];
-    let mut i: usize = 0;
-    while i < 8 {
+    let mut words = [0; 8];
+    for i in 0..8 {
         words[i] = octets::read(bytes, 4 * i, 4) as u32;
-        i += 1;
     }
     words
 }
 
-// The 32 rounds, with the table lent. The swap after the last is undone where the halves are joined.
-fn run(rows: &[[u8; 16]; 8], key: &[u32], block: u64) -> u64
+// The 32 rounds: the key's words in order three times, then in reverse. The swap after the last is undone where the halves are joined.
+fn run(rows: &Rows, key: &[u32], block: u64) -> u64
     requires { (rows.now ≡ pi) × (length key.now ≡ 8) }
     ensures { result ≡ encrypted key.now block }
 {
     let start = Halves {
-        high: (block / 4294967296) as u32,
+        high: (block >> 32) as u32,
         low: (block % 4294967296) as u32,
     };
     let first = forward(rows, key, start);
     let second = forward(rows, key, first);
     let third = forward(rows, key, second);
     let last = backward(rows, key, third);
-    (last.low as u64) * 4294967296 + (last.high as u64)
+    (u64::from(last.low) << 32) + u64::from(last.high)
 }
 
-// Eight rounds, with the key's words in order.
-pub fn forward(rows: &[[u8; 16]; 8], key: &[u32], halves: Halves) -> Halves
-    requires { (rows.now ≡ pi) × (length key.now ≡ 8) }
+// A round for each word of the key, in order.
+pub fn forward(rows: &Rows, key: &[u32], halves: Halves) -> Halves
+    requires { rows.now ≡ pi }
     ensures { result ≡ through key.now halves }
 {
-    let mut reached = halves;
-    let mut i: usize = 0;
-    while i < 8 {
-        let next = round(rows, key[i], reached);
-        reached = next;
-        i += 1;
-    }
-    reached
+    key.iter()
+        .fold(halves, |reached, word| reached.round(rows, *word))
 }
 
-// Eight rounds, with the key's words in reverse.
-pub fn backward(rows: &[[u8; 16]; 8], key: &[u32], halves: Halves) -> Halves
-    requires { (rows.now ≡ pi) × (length key.now ≡ 8) }
+// A round for each word of the key, in reverse.
+pub fn backward(rows: &Rows, key: &[u32], halves: Halves) -> Halves
+    requires { rows.now ≡ pi }
     ensures { result ≡ through (reverse key.now) halves }
 {
-    let mut reached = halves;
-    let mut i: usize = 0;
-    while i < 8 {
-        let next = round(rows, key[7 - i], reached);
-        reached = next;
-        i += 1;
-    }
-    reached
+    let words = key.iter().rev();
+    words.fold(halves, |reached, word| reached.round(rows, *word))
 }
 
-// A round, with the swap after it.
-pub fn round(rows: &[[u8; 16]; 8], word: u32, halves: Halves) -> Halves
-    requires { rows.now ≡ pi }
-    ensures { result ≡ swapping word halves }
-{
-    Halves {
-        high: halves.low,
-        low: turn(rows, word, halves.low) ^ halves.high,
+impl Halves {
+    // A round, with the swap after it.
+    pub fn round(self, rows: &Rows, word: u32) -> Halves
+        requires { rows.now ≡ pi }
+        ensures { result ≡ swapping word self }
+    {
+        Halves {
+            high: self.low,
+            low: turn(rows, word, self.low) ^ self.high,
+        }
     }
 }
 
 // What a round combines with the high half.
-pub fn turn(rows: &[[u8; 16]; 8], word: u32, low: u32) -> u32
+pub fn turn(rows: &Rows, word: u32, low: u32) -> u32
     requires { rows.now ≡ pi }
     ensures { result ≡ turned word low }
 {
-    let mixed = substitute(rows, std::num::wrapping_add_u32(low, word));
+    let mixed = substitute(rows, low.wrapping_add(word));
     (mixed << 11) + (mixed >> 21)
 }
 
 // Each nibble of x, substituted by its row.
-pub fn substitute(rows: &[[u8; 16]; 8], x: u32) -> u32
+pub fn substitute(rows: &Rows, x: u32) -> u32
     requires { rows.now ≡ pi }
     ensures { result ≡ substituted 8 x }
 {
-    let mut done: u32 = 0;
-    let mut row: usize = 0;
-    while row < 8 {
+    let mut done = 0;
+    for row in 0..8 {
         let shift = 4 * (row as u32);
         let nibble = ((x >> shift) % 16) as usize;
-        done += entry(rows, row, nibble) << shift;
-        row += 1;
+        done += u32::from(rows[row][nibble]) << shift;
     }
     done
-}
-
-// What the row puts for the nibble.
-fn entry(rows: &[[u8; 16]; 8], row: usize, nibble: usize) -> u32
-    requires { (rows.now ≡ pi) × (row < 8) × (nibble < 16) }
-    ensures { result ≡ nibble_for row nibble }
-{
-    octets::wide(rows[row][nibble]) as u32
 }

@@ -16,13 +16,13 @@ use Rattle.format.specs.Suite.{icv_length_of}
 use Rattle.format.specs.KeyData.{KeyData}
 use Rattle.format.specs.Header.{greatest_message, fixed_bytes, read_of, header_bytes, payload_length, payload_in}
 use Rattle.message.specs.Sealing.{icv_of, enciphered, front_of, sealed, right, opened, opened_under}
-use Rattle.format.specs.declared.header.Parsed.TheVariants.{Read}
 use Rattle.format.specs.declared.suite.Suite.{Suite}
 use Rattle.message.proofs.Fronts.{front_length, front_bytes}
 use Rattle.format.proofs.KeyIds.{length_anywhere}
 use Rattle.message.proofs.Opening.{Compared, same_right}
 use Rattle.message.proofs.Payloads.{enciphered_length, enciphered_twice, icv_lt}
 use Rattle.format.proofs.Written.{Writable, header_for, header_bytes_length, read_written}
+use Rattle.std.specs.Prelude.{Ok}
 
 module _ (s : Suite) (k : KeyData) (seq_num : ℕ) (payload : List ℕ) where
   abbrev message : List ℕ
@@ -59,7 +59,7 @@ module _ (s : Suite) (k : KeyData) (seq_num : ℕ) (payload : List ℕ) where
   icv_there = drop_at front (bytes_of (icv_length_of s) icv) (length message - icv_length_of s) icv_place
 
   module _ (w : Writable k.flag k.key_id seq_num) (short : fixed_bytes + length k.key_id + length payload + icv_length_of s ≤ greatest_message) where
-    pub sealed_reads : read_of (sealed s k seq_num payload) ≡ Read (header_for k.flag s k.key_id seq_num)
+    pub sealed_reads : read_of (sealed s k seq_num payload) ≡ Ok (header_for k.flag s k.key_id seq_num)
     sealed_reads =
         let rest : length (sent ++ bytes_of (icv_length_of s) icv) ≡ length payload + icv_length_of s =
         rw (length-append, length_bytes, enciphered_length s k.edition (key_words k.key) k.source seq_num payload) in

@@ -1,6 +1,6 @@
 -- Messages sealed and opened (01, "The message, big-endian" and "Suites and derived keys"; 000, 6.2 and 6.3). The edition is
 -- the key data's own (02, No. 4).
-use Rattle.std.specs.Prelude.{Bool, cond, List, ◌++◌, ℕ, eqb, take, drop}
+use Rattle.std.specs.Prelude.{Bool, cond, List, ◌++◌, ℕ, eqb, take, drop, None, Option, Some}
 use Rattle.octets.specs.Octets.{big_endian, bytes_of, put}
 use Rattle.magma.specs.Magma.{key_words}
 use Rattle.modes.specs.Modes.{cut, magma_check, magma_counter}
@@ -9,8 +9,6 @@ use Rattle.format.specs.Header.{header_bytes, end_of, payload_length, payload_in
 use Rattle.format.specs.KeyData.{KeyData}
 use Rattle.derivation.specs.Derivation.{check_key, cipher_key, iv_of}
 use Rattle.format.specs.declared.header.Header.{Header}
-use Rattle.message.specs.declared.sealing.Opened.{Opened}
-use Rattle.message.specs.declared.sealing.Opened.TheVariants.{Payload, Wrong}
 use Rattle.format.specs.declared.suite.Suite.{Suite}
 
 -- "The ICV covers all before it, the encrypted payload included.": as much of the check value as the suite has for it (02, No. 5)
@@ -47,8 +45,8 @@ unfoldable pub opened_under : Header → ℕ → List ℕ → List ℕ → List 
 opened_under h edition key source m = enciphered h.suite edition (key_words key) source h.seqnum (payload_in h m)
 
 -- what opening answers, and what the output then holds: nothing of the message where the ICV is wrong
-abbrev pub opened_as : Header → ℕ → List ℕ → List ℕ → List ℕ → Opened
-opened_as h edition key source m = cond (right_under h edition key source m) (Payload (payload_length h m)) Wrong
+abbrev pub opened_as : Header → ℕ → List ℕ → List ℕ → List ℕ → Option ℕ
+opened_as h edition key source m = cond (right_under h edition key source m) (Some (payload_length h m)) None
 
 abbrev pub output_after : Header → ℕ → List ℕ → List ℕ → List ℕ → List ℕ → List ℕ
 output_after h edition key source m out = cond (right_under h edition key source m) (put out 0 (opened_under h edition key source m)) out
@@ -61,5 +59,5 @@ right h k m = right_under h k.edition k.key k.source m
 abbrev pub opened : Header → KeyData → List ℕ → List ℕ
 opened h k m = opened_under h k.edition k.key k.source m
 
-abbrev pub opened_by : Header → KeyData → List ℕ → Opened
+abbrev pub opened_by : Header → KeyData → List ℕ → Option ℕ
 opened_by h k m = opened_as h k.edition k.key k.source m

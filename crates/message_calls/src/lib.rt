@@ -2,13 +2,12 @@
 // payload, a function answers the length of the longest message, which is that of the output.
 #![tactic(auto)]
 
-use derivation::Purpose;
+use derivation::{Derivation, Purpose};
 use format::header;
-use format::header::{GREATEST, Parsed};
+use format::header::GREATEST;
 use format::key_data::Terms;
-use format::suite::{Numbered, Suite};
+use format::suite::Suite;
 use message::sealing;
-use message::sealing::Opened;
 use std::io;
 use std::io::Write;
 
@@ -27,19 +26,17 @@ pub fn derived_block(command: usize, operands: &[u8]) -> u64 {
     if 32 < source.len() {
         return 0;
     }
-    let numbered = Suite::numbered(script::byte(operands, 2));
-    let Numbered::Known(suite) = numbered else {
+    let Some(suite) = Suite::numbered(script::byte(operands, 2)) else {
         return 0;
     };
     let base = key(operands);
-    let subkeys = modes::subkeys_of(&base);
     let purpose = Purpose {
         suite,
         edition: script::byte(operands, 3),
         seqnum: script::number(operands, 4),
     };
-    let first = script::byte(operands, 5) % 6;
-    let key = derivation::derived_key(&base, subkeys, purpose, source, first);
+    let keys = Derivation::new(&base, purpose, source);
+    let key = keys.key_from(script::byte(operands, 5) % 6);
     match command {
         12 => pair(key[2], key[3]),
         _ => pair(key[0], key[1]),
@@ -60,8 +57,7 @@ fn seal(operands: &[u8], out: &mut [u8]) -> usize {
     if 32 < source.len() {
         return GREATEST;
     }
-    let numbered = Suite::numbered(script::byte(operands, 2));
-    let Numbered::Known(suite) = numbered else {
+    let Some(suite) = Suite::numbered(script::byte(operands, 2)) else {
         return GREATEST;
     };
     let keyid = script::operand(operands, 6);
@@ -103,15 +99,10 @@ fn open(operands: &[u8], edition: u8, message: &[u8], out: &mut [u8]) -> usize {
     if out.len() < message.len() {
         return GREATEST;
     }
-    let parsed = header::read_header(message);
-    let Parsed::Read(read) = parsed else {
+    let Ok(header) = header::read_header(message) else {
         return GREATEST;
     };
-    let found = sealing::open(read, edition, key, source, message, out);
-    let Opened::Payload(length) = found else {
-        return GREATEST;
-    };
-    length
+    sealing::open(header, edition, key, source, message, out).unwrap_or(GREATEST)
 }
 
 // The message of `seal`, from a place on. Answers twice the length of what it opens to, and 1 more if that is the payload.

@@ -1,5 +1,5 @@
 // Counter mode, block by block straight from the data into the output.
-ghost use Rattle.std.specs.Prelude.{◌≡◌, ◌+◌, ◌^◌, ◌<◌, ◌≤◌, min, length};
+ghost use Rattle.std.specs.Prelude.{◌≡◌, ◌+◌, ◌^◌, ◌<◌, ◌≤◌, length};
 ghost use Rattle.octets.specs.Octets.{put};
 ghost use Rattle.modes.specs.Modes.{byte_of, masked, magma_counter};
 
@@ -8,21 +8,11 @@ pub fn counter(key: &[u32; 8], iv: u32, bytes: &[u8], out: &mut [u8], at: usize)
     requires { (at + length bytes.now ≤ length out.old) × (length bytes.now ≤ 2 ^ 35) }
     ensures { out.new ≡ put out.old at (magma_counter key.now iv bytes.now) }
 {
-    let first = (iv as u64) * 4294967296;
-    let mut done: usize = 0;
-    while done < bytes.len() {
-        let end = done + block_length(bytes.len() - done);
-        let gamma = magma::encrypt(key, first + (done / 8) as u64);
-        mask(gamma, &bytes[done..end], out, at + done);
-        done = end;
+    let first = u64::from(iv) << 32;
+    for (k, block) in bytes.chunks(8).enumerate() {
+        let gamma = magma::encrypt(key, first + (k as u64));
+        mask(gamma, block, out, at + 8 * k);
     }
-}
-
-// Of `rest` bytes, how many are in the first block.
-fn block_length(rest: usize) -> usize
-    ensures { result ≡ min 8 rest }
-{
-    if rest < 8 { rest } else { 8 }
 }
 
 // At most a block of bytes, each exclusive or its byte of the gamma, is written at `at`.
@@ -30,10 +20,8 @@ fn mask(gamma: u64, bytes: &[u8], out: &mut [u8], at: usize)
     requires { (length bytes.now ≤ 8) × (at + length bytes.now ≤ length out.old) }
     ensures { out.new ≡ put out.old at (masked (byte_of 8 gamma) 0 bytes.now) }
 {
-    let mut i: usize = 0;
-    while i < bytes.len() {
-        out[at + i] = bytes[i] ^ byte_at(gamma, i);
-        i += 1;
+    for (i, byte) in bytes.iter().enumerate() {
+        out[at + i] = *byte ^ byte_at(gamma, i);
     }
 }
 

@@ -5,6 +5,6 @@
 mod cmac;
 mod ctr;
 
-pub use cmac::{Subkeys, check_value, check_with, subkeys_of};
+pub use cmac::{CheckKey, check_value};
 pub use ctr::counter;
 pub use magma::key_words;

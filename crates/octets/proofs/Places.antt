@@ -2,8 +2,8 @@
 -- Assumes nothing.
 use mathlib.Core.Path.{◌≡◌, refl, sym, ap, ap₂, ◌∙◌}
 use mathlib.Core.List.{List, [], ◌∷◌, ◌++◌, append_assoc}
-use Prim.Native.Nat.{ℕ, suc, ◌+◌, ◌/◌, ◌%◌, ◌≤◌, ◌<◌}
-use native.Mathlib.Nat.{add_assoc, add-suc, add-zero}
+use Prim.Native.Nat.{ℕ, suc, ◌+◌, ◌-◌, ◌/◌, ◌%◌, ◌≤◌, ◌<◌}
+use native.Mathlib.Nat.{add_assoc}
 use native.Mathlib.Numerals.{add-one}
 use native.Mathlib.Omega.{arith}
 use lib.ListN.{length, get_or, take, drop, set, length-append, length-drop, length-set, take-append-drop}
@@ -85,24 +85,21 @@ put_four l one two three four at p q r a b c d h x y z e f g k =
     let third = and_then second h c r z g in
     (and_then third h d _ refl k).is
 
--- a loop that writes a number from its lowest byte down: a turn of it, and its end
-pub one_lower : (out : List ℕ) (at i x : ℕ) → at + i < length out
-    → bytes_of i (x / 256) ++ drop (at + i) (set out (at + i) (x % 256)) ≡ bytes_of (suc i) x ++ drop (at + suc i) out
+-- a loop that writes a number from its lowest byte down, from behind the place p: a turn of it, and its end
+pub one_lower : (out : List ℕ) (at p x : ℕ) → at ≤ p → p < length out
+    → bytes_of (p - at) (x / 256) ++ drop p (set out p (x % 256)) ≡ bytes_of (suc p - at) x ++ drop (suc p) out
 unfolding bytes_of
-one_lower out at i x h =
-    rw (
-      drop-cons (set out (at + i) (x % 256)) (at + i) 0 (rw length-set h),
-      get_or-set_same out (at + i) (x % 256) 0 h,
-      drop-set-lt (suc (at + i)) out (at + i) (x % 256) (omega arith),
-      add-suc,
-    )
-    (sym (append_assoc (bytes_of i (x / 256)) (x % 256 ∷ []) (drop (suc (at + i)) out)))
+one_lower out at p x room h =
+    let one_more : suc p - at ≡ suc (p - at) = omega arith in
+    rw (one_more, drop-cons (set out p (x % 256)) p 0 (rw length-set h), get_or-set_same out p (x % 256) 0 h, drop-set-lt (suc p) out p (x % 256) (omega arith))
+    (sym (append_assoc (bytes_of (p - at) (x / 256)) (x % 256 ∷ []) (drop (suc p) out)))
 
-pub all_lower : (l done : List ℕ) (at n x i rest : ℕ) → i ≡ 0 → take at done ≡ take at l
-    → bytes_of i rest ++ drop (at + i) done ≡ bytes_of n x ++ drop (at + n) l → done ≡ put l at (bytes_of n x)
+pub all_lower : (l done : List ℕ) (at n x p rest : ℕ) → p ≡ at → take at done ≡ take at l
+    → bytes_of (p - at) rest ++ drop p done ≡ bytes_of n x ++ drop (at + n) l → done ≡ put l at (bytes_of n x)
 unfolding bytes_of
-all_lower l done at n x i rest none front back =
+all_lower l done at n x p rest none front back =
+    let nothing : p - at ≡ 0 = omega arith in
     sym (take-append-drop at done)
-    ∙ ap₂ (λ (u v : List ℕ). u ++ v) front (simp (none, add-zero) at back)
+    ∙ ap₂ (λ (u v : List ℕ). u ++ v) front (rw (nothing, none) at back)
     ∙ sym (append_assoc (take at l) (bytes_of n x) (drop (at + n) l))
     ∙ rw (length_bytes n x)

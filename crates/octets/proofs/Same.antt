@@ -10,6 +10,7 @@ use borrow.Author.Tests.{eq-eqb, ne_eqb, eqb-true}
 use lib.Dec.{eqb}
 use lib.ListN.{length, get_or, drop, drop_of_length-le}
 use lib.Seq.{drop-cons}
+use Rattle.std.specs.Cmp.Lexicographic.{pointwise}
 use Rattle.numbers.proofs.Tests.{and_left, and_right}
 use Rattle.octets.specs.Octets.{same}
 
@@ -32,6 +33,14 @@ other_length [] [] h = absurd (h refl)
 other_length [] (y ∷ ys) h = refl
 other_length (x ∷ xs) [] h = refl
 other_length (x ∷ xs) (y ∷ ys) h = rw (other_length xs ys (λ e. h (ap suc e))) (and-false (eqb x y))
+
+-- std's `==` says the same
+pub same_is : (a b : List ℕ) → pointwise eqb a b ≡ same a b
+unfolding same
+same_is [] [] = refl
+same_is [] (y ∷ ys) = refl
+same_is (x ∷ xs) [] = refl
+same_is (x ∷ xs) (y ∷ ys) = rw (same_is xs ys)
 
 -- what is left decides, after i bytes
 module _ (a b : List ℕ) (i : ℕ) (long : length a ≡ length b) (left : same a b ≡ same (drop i a) (drop i b)) where

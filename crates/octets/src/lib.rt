@@ -1,4 +1,4 @@
-// Bytes in slices: big-endian numbers read, lists compared, and numbers, bytes and zeros written at a place. `specs/Octets.antt` says what each means.
+// Bytes in slices: big-endian numbers read and written, and what std's slices do at a place of one. `specs/Octets.antt` says what each means.
 #![tactic(auto)]
 
 ghost use Rattle.std.specs.Prelude.{◌≡◌, ◌+◌, ◌*◌, ◌^◌, ◌≤◌, ◌<◌, length, drop, replicate};
@@ -8,7 +8,7 @@ ghost use Rattle.octets.specs.Octets.{big_endian, bytes_of, put, same};
 pub fn wide(x: u8) -> u64
     ensures { (result ≡ x) × (result < 256) }
 {
-    x as u64
+    u64::from(x)
 }
 
 // The number that the n bytes at `at` write.
@@ -16,11 +16,9 @@ pub fn read(bytes: &[u8], at: usize, n: usize) -> u64
     requires { (at + n ≤ length bytes.now) × (n ≤ 8) }
     ensures { (result ≡ big_endian n (drop at bytes.now)) × (result < 2 ^ (8 * n)) }
 {
-    let mut number: u64 = 0;
-    let mut i: usize = 0;
-    while i < n {
-        number = number * 256 + wide(bytes[at + i]);
-        i += 1;
+    let mut number = 0;
+    for byte in &bytes[at..at + n] {
+        number = number * 256 + u64::from(*byte);
     }
     number
 }
@@ -31,11 +29,9 @@ pub fn write(out: &mut [u8], at: usize, n: usize, number: u64)
     ensures { out.new ≡ put out.old at (bytes_of n number) }
 {
     let mut rest = number;
-    let mut i = n;
-    while 0 < i {
-        i -= 1;
-        out[at + i] = (rest % 256) as u8;
-        rest = rest / 256;
+    for i in (at..at + n).rev() {
+        out[i] = (rest % 256) as u8;
+        rest /= 256;
     }
 }
 
@@ -44,11 +40,7 @@ pub fn copy(bytes: &[u8], out: &mut [u8], at: usize)
     requires { at + length bytes.now ≤ length out.old }
     ensures { out.new ≡ put out.old at bytes.now }
 {
-    let mut i: usize = 0;
-    while i < bytes.len() {
-        out[at + i] = bytes[i];
-        i += 1;
-    }
+    out[at..at + bytes.len()].copy_from_slice(bytes);
 }
 
 // n zeros are written at `at`.
@@ -56,26 +48,12 @@ pub fn clear(out: &mut [u8], at: usize, n: usize)
     requires { at + n ≤ length out.old }
     ensures { out.new ≡ put out.old at (replicate n 0) }
 {
-    let mut i: usize = 0;
-    while i < n {
-        out[at + i] = 0;
-        i += 1;
-    }
+    out[at..at + n].fill(0);
 }
 
 // Whether two slices hold the same bytes.
 pub fn equal(a: &[u8], b: &[u8]) -> bool
     ensures { result ≡ same a.now b.now }
 {
-    if a.len() != b.len() {
-        return false;
-    }
-    let mut i: usize = 0;
-    while i < a.len() {
-        if a[i] != b[i] {
-            return false;
-        }
-        i += 1;
-    }
-    true
+    a == b
 }

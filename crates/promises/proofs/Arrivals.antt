@@ -20,7 +20,6 @@ use Rattle.window.proofs.Floor.{floor_mono}
 use Rattle.format.specs.Header.{read_of, key_id_bytes, payload_length}
 use Rattle.format.specs.Suite.{number_of}
 use Rattle.format.specs.declared.header.Header.{Header}
-use Rattle.format.specs.declared.header.Parsed.TheVariants.{Read}
 use Rattle.message.specs.Sealing.{right}
 use Rattle.slots.specs.Table.{slot_of, entry_of, key_data_of, replaced, slot_count, table_length}
 use Rattle.slots.specs.Record.{undamaged}
@@ -30,7 +29,6 @@ use Rattle.slots.proofs.Rewriting.{Rewritten, raised_rewritten, rewritten_length
 use Rattle.slots.proofs.Settled.{settled_rewritten}
 use Rattle.slots.proofs.Slots.{length_of_slot}
 use Rattle.lookup.specs.Lookup.{matches, leads_to}
-use Rattle.lookup.specs.declared.Found.TheVariants.{At}
 use Rattle.lookup.proofs.Firsts.{first_same, leads_small, leads_matches}
 use Rattle.lookup.proofs.Matching.{match_facts, same_matches}
 use Rattle.gateway.specs.Receive.{Received, received, handed_out, counter_of}
@@ -47,6 +45,7 @@ use Rattle.promises.proofs.History.{history, leads_of}
 use Rattle.promises.proofs.Refusals.{receive_keeps, raised_around}
 use Rattle.promises.proofs.Runs.{begun, run_append}
 use Rattle.promises.proofs.Steps.{Stands, step}
+use Rattle.std.specs.Prelude.{Ok, Some}
 
 -- ---- what an arrival does to a table
 
@@ -70,7 +69,7 @@ module _ (t : List ℕ) (long : length t ≡ table_length) where
   unmoved = record { long = long; leads = λ flag key_id source. refl; harmed = λ i small e. refl }
 
   -- a slot that was found and is undamaged is written, behind what an install settled
-  module _ (i flag : ℕ) (key_id source : List ℕ) (l : leads_to t flag key_id source ≡ At i) {s u : List ℕ} (w : Rewritten t i s u) where
+  module _ (i flag : ℕ) (key_id source : List ℕ) (l : leads_to t flag key_id source ≡ Some i) {s u : List ℕ} (w : Rewritten t i s u) where
     small : i < slot_count
     small = leads_small t i flag key_id source l
 
@@ -176,7 +175,7 @@ module _ (b : Beginning) (m source out : List ℕ) where
   by_tests false true false false false first old x y e p q = absurd (false≢true (ap is_new e))
   by_tests false true false false true first old x y e p q = (refl, rw (p refl, q refl))
 
-  module _ (h : Header) (read : read_of m ≡ Read h) where
+  module _ (h : Header) (read : read_of m ≡ Ok h) where
     abbrev message : Message
     message = record { number = h.seqnum; payload = payload_length h m }
 

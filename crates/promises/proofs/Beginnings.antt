@@ -21,7 +21,6 @@ use Rattle.slots.specs.Table.{slot_of, window_of, entry_of, key_data_of, replace
 use Rattle.slots.specs.Record.{undamaged}
 use Rattle.slots.proofs.Replacing.{length_replaced, slot_own, slot_other}
 use Rattle.lookup.specs.Lookup.{leads_to}
-use Rattle.lookup.specs.declared.Found.TheVariants.{At}
 use Rattle.lookup.proofs.Firsts.{lowest, leads_nowhere, elsewhere_nowhere, free_small}
 use Rattle.entries.specs.Change.{changed}
 use Rattle.entries.specs.Fresh.{fresh_slot}
@@ -33,6 +32,7 @@ use Rattle.promises.specs.Calls.{install, change, after}
 use Rattle.promises.specs.Counted.{fresh, standing}
 use Rattle.promises.specs.History.{Begins}
 use Rattle.promises.proofs.Held.{is_named}
+use Rattle.std.specs.Prelude.{Some}
 
 module _ (t : List ℕ) (long : length t ≡ table_length) (k : KeyData) (f : Frame) (bytes : Bytes k.key_id) where
   -- a fresh entry in a slot below which none matches its key data
@@ -81,7 +81,7 @@ module _ (t : List ℕ) (long : length t ≡ table_length) (k : KeyData) (f : Fr
 
 -- what stands undamaged in a slot to which its key data leads
 pub slot_begins : (t : List ℕ) → length t ≡ table_length → (i : ℕ)
-    → let k = key_data_of (slot_of t i) in leads_to t k.flag k.key_id k.source ≡ At i
+    → let k = key_data_of (slot_of t i) in leads_to t k.flag k.key_id k.source ≡ Some i
     → undamaged (slot_of t i) ≡ true → Begins (standing k (entry_of (slot_of t i))) i t
 slot_begins t long i leads unharmed = record {
   long = long;

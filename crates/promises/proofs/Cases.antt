@@ -17,8 +17,6 @@ use Rattle.window.specs.Entry.{Entry, taken, counting}
 use Rattle.format.specs.Header.{read_of, seq_num_in, payload_length}
 use Rattle.format.specs.Suite.{number_of}
 use Rattle.format.specs.declared.header.Header.{Header}
-use Rattle.format.specs.declared.header.Parsed.{Parsed}
-use Rattle.format.specs.declared.header.Parsed.TheVariants.{Read, BadLength, BadVersion, BadSuite, TooShort}
 use Rattle.format.proofs.Room.{read_room}
 use Rattle.message.specs.Sealing.{right}
 use Rattle.slots.specs.Table.{slot_of, entry_of}
@@ -30,6 +28,8 @@ use Rattle.promises.specs.History.{Begins, entry_by, reply_to}
 use Rattle.promises.proofs.Runs.{begun}
 use Rattle.promises.proofs.Steps.{Stands, replied, step}
 use Rattle.promises.proofs.Counting.{verdict_agrees}
+use Rattle.std.specs.Prelude.{Err, Ok, Result}
+use Rattle.format.specs.declared.header.HeaderError.{HeaderError}
 
 -- ---- one message
 
@@ -51,7 +51,7 @@ module _ {b : Beginning} {i : ℕ} {t : List ℕ} {past : List Told} (now : Stan
   by_tests x false true w v r = record { replies = r ∙ rw (w, v); leaves = rw v (moves w) }
   by_tests x false false w v r = record { replies = r ∙ rw (w, v); leaves = rw v (moves w) }
 
-  of_header : (h : Header) → read_of m ≡ Read h → is_genuine b.keys (Read h) m source ≡ true → Turns entry i h.seqnum (payload_length h m) (called t call)
+  of_header : (h : Header) → read_of m ≡ Ok h → is_genuine b.keys (Ok h) m source ≡ true → Turns entry i h.seqnum (payload_length h m) (called t call)
   of_header h read g =
       let k = b.keys in
       let named = is_of k h m source in
@@ -66,18 +66,15 @@ module _ {b : Beginning} {i : ℕ} {t : List ℕ} {past : List Told} (now : Stan
   turns : is_genuine b.keys (read_of m) m source ≡ true → (n : ℕ) × Turns entry i (seq_num_in m) n (called t call)
   turns genuine = by (read_of m) refl genuine
     where
-      by : (p : Parsed) → read_of m ≡ p → is_genuine b.keys p m source ≡ true → (n : ℕ) × Turns entry i (seq_num_in m) n (called t call)
-      by (Read h) read g =
+      by : (p : Result Header HeaderError) → read_of m ≡ p → is_genuine b.keys p m source ≡ true → (n : ℕ) × Turns entry i (seq_num_in m) n (called t call)
+      by (Ok h) read g =
           (payload_length h m, subst (λ (n : ℕ). Turns entry i n (payload_length h m) (called t call)) (read_room m read).number (of_header h read g))
-      by BadLength read g = absurd (true≢false (sym g))
-      by BadVersion read g = absurd (true≢false (sym g))
-      by BadSuite read g = absurd (true≢false (sym g))
-      by TooShort read g = absurd (true≢false (sym g))
+      by (Err why) read g = absurd (true≢false (sym g))
 
 -- A genuine message that comes with room to an undamaged entry meets the reply of the window's verdict on its number, and leaves the entry with
 -- the message taken where that is 0.
 pub genuine_received : {b : Beginning} {i : ℕ} {t : List ℕ} → Begins b i t → (m source out : List ℕ) → Bytes m → output_room ≤ length out
-    → (h : Header) → read_of m ≡ Read h → is_genuine b.keys (Read h) m source ≡ true
+    → (h : Header) → read_of m ≡ Ok h → is_genuine b.keys (Ok h) m source ≡ true
     → Turns (entry_of (slot_of t i)) i h.seqnum (payload_length h m) (received t m source out)
 genuine_received begins = of_header (begun begins)
 

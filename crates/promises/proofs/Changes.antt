@@ -20,8 +20,6 @@ use Rattle.window.proofs.Undamaged.{frame_facts}
 use Rattle.format.specs.Header.{read_of, payload_length}
 use Rattle.format.specs.KeyData.{KeyData}
 use Rattle.format.specs.Suite.{number_of}
-use Rattle.format.specs.declared.header.Parsed.{Parsed}
-use Rattle.format.specs.declared.header.Parsed.TheVariants.{Read, BadLength, BadVersion, BadSuite, TooShort}
 use Rattle.message.specs.Sealing.{right}
 use Rattle.slots.specs.Table.{slot_of, window_of, table_length}
 use Rattle.entries.specs.Change.{changed}
@@ -40,6 +38,9 @@ use Rattle.promises.proofs.Refusals.{change_keeps}
 use Rattle.promises.proofs.Runs.{run_long, run_append}
 use Rattle.promises.proofs.Starts.{start_above, start_above_highest}
 use Rattle.promises.proofs.Traces.{allowed_called}
+use Rattle.std.specs.Prelude.{Err, Ok, Result}
+use Rattle.format.specs.declared.header.HeaderError.{HeaderError}
+use Rattle.format.specs.declared.header.Header.{Header}
 
 module _ (t : List ℕ) (long : length t ≡ table_length) (i : ℕ) (k : KeyData) (f : Frame) (bytes : Bytes k.key_id) where
   -- ---- a removal and an install
@@ -136,16 +137,13 @@ counted_anew b past f start some (arrival m source out) x = by (ltb (length out)
     named true low met icv y e = both low met icv y e
     named false low met icv y e = e
 
-    by : (short : Bool) (p : Parsed) → cond short apart (told_of b past p m source) ≡ new x → cond short apart (told_of (fresh b.keys f) [] p m source) ≡ new x
+    by : (short : Bool) (p : Result Header HeaderError) → cond short apart (told_of b past p m source) ≡ new x → cond short apart (told_of (fresh b.keys f) [] p m source) ≡ new x
     by true p e = e
-    by false (Read h) e =
+    by false (Ok h) e =
         rw (below_none h.seqnum)
         (named (is_of b.keys h m source && eqb b.keys.suite (number_of h.suite)) (is_below b past h.seqnum) (is_used b past h.seqnum) (right h b.keys m)
         (record { number = h.seqnum; payload = payload_length h m }) e)
-    by false BadLength e = e
-    by false BadVersion e = e
-    by false BadSuite e = e
-    by false TooShort e = e
+    by false (Err why) e = e
 counted_anew b past f start some (install k g) x = λ e. e
 counted_anew b past f start some (remove i) x = λ e. e
 counted_anew b past f start some (change i k g) x = λ e. e

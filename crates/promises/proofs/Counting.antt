@@ -14,8 +14,6 @@ use Rattle.answers.specs.Answers.{output_room}
 use Rattle.format.specs.Header.{seq_num_in, read_of, payload_length}
 use Rattle.format.specs.Suite.{number_of}
 use Rattle.format.specs.declared.header.Header.{Header}
-use Rattle.format.specs.declared.header.Parsed.{Parsed}
-use Rattle.format.specs.declared.header.Parsed.TheVariants.{Read, BadLength, BadVersion, BadSuite, TooShort}
 use Rattle.format.proofs.Room.{read_room}
 use Rattle.message.specs.Sealing.{right}
 use Rattle.window.specs.Window.{floor_of, marked, judge, verdict_of}
@@ -28,6 +26,8 @@ use Rattle.window.proofs.Undamaged.{undamaged_facts, takes}
 use Rattle.promises.specs.Calls.{Call, arrival, install, remove, change, load}
 use Rattle.promises.specs.Counted.{Beginning, Message, Told, apart, below, used, forged, new, messages, numbers, is_in, counters_since, highest_since, is_below, is_used, is_of, tested, told_of, told, told_from, is_genuine, is_counted, is_new}
 use Rattle.promises.specs.History.{nothing, one, noted, counted_of, counters_by, different, total}
+use Rattle.std.specs.Prelude.{Err, Ok, Result}
+use Rattle.format.specs.declared.header.HeaderError.{HeaderError}
 
 pub record Agrees (b : Beginning) (e : Entry) (past : List Told) : Type 0 where
   pub framed : e.window.frame ≡ b.frame
@@ -148,18 +148,15 @@ module _ (b : Beginning) (past : List Told) where
       short : Bool
       short = ltb (length out) output_room
 
-      by : (p : Parsed) → read_of message ≡ p
+      by : (p : Result Header HeaderError) → read_of message ≡ p
           → is_new (cond short apart (told_of b past p message source))
           ≡ (is_genuine b.keys p message source && not short && not (is_below b past (seq_num_in message)) && not (is_used b past (seq_num_in message)))
-      by (Read h) e =
+      by (Ok h) e =
           let k = b.keys in
           rw (← (read_room message e).number)
           (by_words (is_of k h message source && eqb k.suite (number_of h.suite)) (is_below b past h.seqnum) (is_used b past h.seqnum)
           (right h k message) short (record { number = h.seqnum; payload = payload_length h message }))
-      by BadLength e = not_read short
-      by BadVersion e = not_read short
-      by BadSuite e = not_read short
-      by TooShort e = not_read short
+      by (Err why) e = not_read short
   counted_words (install k f) = refl
   counted_words (remove i) = refl
   counted_words (change i k f) = refl
@@ -189,13 +186,10 @@ module _ (b : Beginning) (past : List Told) where
           by_tests (is_below b past h.seqnum) (is_used b past h.seqnum) (right h b.keys message) x (rw n) (rw n) e
       told_by_name false h x n e = absurd (false≢true (ap is_new e))
 
-      by_room : (short : Bool) (p : Parsed) → cond short apart (told_of b past p message source) ≡ new y → New y.number
+      by_room : (short : Bool) (p : Result Header HeaderError) → cond short apart (told_of b past p message source) ≡ new y → New y.number
       by_room true p e = absurd (false≢true (ap is_new e))
-      by_room false (Read h) e = told_by_name (is_of b.keys h message source && eqb b.keys.suite (number_of h.suite)) h (record { number = h.seqnum; payload = payload_length h message }) refl e
-      by_room false BadLength e = absurd (false≢true (ap is_new e))
-      by_room false BadVersion e = absurd (false≢true (ap is_new e))
-      by_room false BadSuite e = absurd (false≢true (ap is_new e))
-      by_room false TooShort e = absurd (false≢true (ap is_new e))
+      by_room false (Ok h) e = told_by_name (is_of b.keys h message source && eqb b.keys.suite (number_of h.suite)) h (record { number = h.seqnum; payload = payload_length h message }) refl e
+      by_room false (Err why) e = absurd (false≢true (ap is_new e))
   counted_new (install k f) y e = absurd (false≢true (ap is_new e))
   counted_new (remove i) y e = absurd (false≢true (ap is_new e))
   counted_new (change i k f) y e = absurd (false≢true (ap is_new e))

@@ -21,9 +21,9 @@ use Rattle.slots.proofs.Damage.{undamaged_by_entry}
 use Rattle.slots.proofs.Replacing.{length_replaced, slot_own, slot_other}
 use Rattle.slots.proofs.Rewriting.{same_keydata, Rewritten, rewritten_keys}
 use Rattle.lookup.specs.Lookup.{matches, leads_to}
-use Rattle.lookup.specs.declared.Found.TheVariants.{At}
 use Rattle.lookup.proofs.Firsts.{found_too, leads_small, leads_matches}
 use Rattle.lookup.proofs.Matching.{Alike, same_test, source_fact, source_test, match_facts, match_source, match_test, same_matches}
+use Rattle.std.specs.Prelude.{Some}
 
 -- whether a slot matches key data
 abbrev pub is_named : KeyData → List ℕ → Bool
@@ -34,7 +34,7 @@ pub record Held (k : KeyData) (i : ℕ) (t : List ℕ) : Type 0 where
   pub long : length t ≡ table_length
   pub sound : Sound k
   pub keys : key_data_of (slot_of t i) ≡ k
-  pub leads : leads_to t k.flag k.key_id k.source ≡ At i
+  pub leads : leads_to t k.flag k.key_id k.source ≡ Some i
 
 -- ---- names
 
@@ -86,8 +86,8 @@ module _ (k : KeyData) (flag : ℕ) (key_id source : List ℕ) where
 -- ---- where messages lead
 
 -- to a slot whose own name leads there too
-pub own_leads : (t : List ℕ) (i flag : ℕ) (key_id source : List ℕ) → leads_to t flag key_id source ≡ At i
-    → let k = key_data_of (slot_of t i) in leads_to t k.flag k.key_id k.source ≡ At i
+pub own_leads : (t : List ℕ) (i flag : ℕ) (key_id source : List ℕ) → leads_to t flag key_id source ≡ Some i
+    → let k = key_data_of (slot_of t i) in leads_to t k.flag k.key_id k.source ≡ Some i
 unfolding leads_to
 own_leads t i flag key_id source l =
     let k = key_data_of (slot_of t i) in
@@ -108,7 +108,7 @@ module _ {k : KeyData} {i : ℕ} {t : List ℕ} (held : Held k i t) where
   held_alike = match_facts k.flag k.key_id k.source (slot_of t i) held_matches
 
   module _ (flag : ℕ) (key_id source : List ℕ) where
-    pub leads_here : Names k flag key_id source → leads_to t flag key_id source ≡ At i
+    pub leads_here : Names k flag key_id source → leads_to t flag key_id source ≡ Some i
     unfolding leads_to
     leads_here n =
         let other : KeyData = record { flag = flag; key_id = key_id; source = source; suite = 0; edition = 0; key = [] } in
@@ -116,7 +116,7 @@ module _ {k : KeyData} {i : ℕ} {t : List ℕ} (held : Held k i t) where
         (match_named other k.flag k.key_id k.source (slot_of t i) (names_back {k = k} {other = other} n) held_matches)
         (λ j l. match_named k flag key_id source (slot_of t j) n)
 
-    pub leads_named : leads_to t flag key_id source ≡ At i → Names k flag key_id source
+    pub leads_named : leads_to t flag key_id source ≡ Some i → Names k flag key_id source
     leads_named l = match_names k flag key_id source (slot_of t i) held.keys (leads_matches t i flag key_id source l)
 
   -- the slot is undamaged where its entry is

@@ -20,13 +20,10 @@ use Rattle.format.specs.Header.{read_of, payload_length, key_id_bytes}
 use Rattle.format.specs.KeyData.{KeyData}
 use Rattle.format.specs.Suite.{number_of}
 use Rattle.format.specs.declared.header.Header.{Header}
-use Rattle.format.specs.declared.header.Parsed.{Parsed}
-use Rattle.format.specs.declared.header.Parsed.TheVariants.{Read, BadLength, BadVersion, BadSuite, TooShort}
 use Rattle.message.specs.Sealing.{right, opened}
 use Rattle.slots.specs.Table.{slot_of, counters_of, entry_of, raised_in, slot_length, table_length, replays_at}
 use Rattle.slots.proofs.Slots.{length_of_slot}
 use Rattle.lookup.specs.Lookup.{leads_to}
-use Rattle.lookup.specs.declared.Found.TheVariants.{At}
 use Rattle.entries.specs.Install.{done_at, installed}
 use Rattle.gateway.specs.Receive.{Received, kept, parsed, received}
 use Rattle.gateway.proofs.Cascade.{NotSeven, never_seven}
@@ -43,6 +40,8 @@ use Rattle.promises.proofs.Runs.{begun, stands_on, hands_on, accounts, run_long,
 use Rattle.promises.proofs.Steps.{Stands, arrives, step}
 use Rattle.promises.proofs.Traces.{allowed_called, trace_results, trace_run}
 use Rattle.promises.proofs.Worthless.{nothing_given, one_account}
+use Rattle.std.specs.Prelude.{Err, Ok, Result, Some}
+use Rattle.format.specs.declared.header.HeaderError.{HeaderError}
 
 -- ---- what is not counted, in a slot
 
@@ -96,11 +95,11 @@ module _ {b : Beginning} {i : ℕ} {t : List ℕ} (begins : Begins b i t) where
 
     -- A message leads to the slot exactly if it is of the entry.
     pub of_leads : (h : Header) (message source : List ℕ) → is_of b.keys h message source ≡ true
-        → leads_to (run t cs) h.flag (key_id_bytes h message) source ≡ At i
+        → leads_to (run t cs) h.flag (key_id_bytes h message) source ≡ Some i
     of_leads h message source e =
         leads_here (stands cs goes).held h.flag (key_id_bytes h message) source (names_facts b.keys h.flag (key_id_bytes h message) source e)
 
-    pub leads_of : (h : Header) (message source : List ℕ) → leads_to (run t cs) h.flag (key_id_bytes h message) source ≡ At i
+    pub leads_of : (h : Header) (message source : List ℕ) → leads_to (run t cs) h.flag (key_id_bytes h message) source ≡ Some i
         → is_of b.keys h message source ≡ true
     leads_of h message source e =
         names_test b.keys h.flag (key_id_bytes h message) source (leads_named (stands cs goes).held h.flag (key_id_bytes h message) source e)
@@ -112,7 +111,7 @@ module _ {b : Beginning} {i : ℕ} {t : List ℕ} (begins : Begins b i t) where
     genuine_tests message source out = genuine_held (stands cs goes).held message source out
 
     -- A message that is handed out stands in the output.
-    pub payload_stands : (message source out : List ℕ) → Bytes message → (h : Header) → read_of message ≡ Read h → (x : Message)
+    pub payload_stands : (message source out : List ℕ) → Bytes message → (h : Header) → read_of message ≡ Ok h → (x : Message)
         → handed i (run t cs) (arrival message source out) ≡ one x
         → (called (run t cs) (arrival message source out)).out ≡ put out 0 (opened h b.keys message)
     payload_stands message source out bytes h read x gave =
@@ -120,8 +119,8 @@ module _ {b : Beginning} {i : ℕ} {t : List ℕ} (begins : Begins b i t) where
         m.writes x (sym m.does.gives ∙ gave) h read
 
     -- Reply 7 is never given for it.
-    pub never_damaged : (message source out : List ℕ) (h : Header) → read_of message ≡ Read h
-        → leads_to (run t cs) h.flag (key_id_bytes h message) source ≡ At i → (called (run t cs) (arrival message source out)).answer.reply ≡ 7 → ⊥
+    pub never_damaged : (message source out : List ℕ) (h : Header) → read_of message ≡ Ok h
+        → leads_to (run t cs) h.flag (key_id_bytes h message) source ≡ Some i → (called (run t cs) (arrival message source out)).answer.reply ≡ 7 → ⊥
     unfolding received
     never_damaged message source out h read leads =
         (either NotSeven (ltb (length out) output_room) (kept (run t cs) out 1) (parsed (read_of message) (run t cs) message source out) (λ _. record { other = λ z. omega arith })
@@ -157,7 +156,7 @@ module _ {b : Beginning} {i : ℕ} {t : List ℕ} (begins : Begins b i t) where
 
     -- one below the floor, or whose number was counted or used before, genuine or not, every byte but those of the counter of replays: this has one more, or
     -- stays at its limit, if the message came with room and is of the entry and of its suite,
-    pub stale_stays : (message source out : List ℕ) → Bytes message → (h : Header) → read_of message ≡ Read h
+    pub stale_stays : (message source out : List ℕ) → Bytes message → (h : Header) → read_of message ≡ Ok h
         → (is_below b (told_by b cs) h.seqnum || is_used b (told_by b cs) h.seqnum) ≡ true
         → let s = slot_of (run t cs) i in let mine = is_of b.keys h message source && eqb b.keys.suite (number_of h.suite) in
         slot_of (after (run t cs) (arrival message source out)) i ≡ cond (ltb (length out) output_room) s (cond mine (raised_in replays_at s) s)
@@ -179,18 +178,15 @@ module _ {b : Beginning} {i : ℕ} {t : List ℕ} (begins : Begins b i t) where
 
     -- and a message that leads elsewhere every byte.
     pub elsewhere_stays : (message source out : List ℕ) → Bytes message
-        → ((h : Header) → read_of message ≡ Read h → leads_to (run t cs) h.flag (key_id_bytes h message) source ≡ At i → ⊥)
+        → ((h : Header) → read_of message ≡ Ok h → leads_to (run t cs) h.flag (key_id_bytes h message) source ≡ Some i → ⊥)
         → slot_of (after (run t cs) (arrival message source out)) i ≡ slot_of (run t cs) i
     elsewhere_stays message source out bytes away =
         apart_stays (arrival message source out) (bytes, refl, tt) (by (ltb (length out) output_room) (read_of message) refl)
       where
-        by : (short : Bool) (p : Parsed) → read_of message ≡ p → cond short apart (told_of b (told_by b cs) p message source) ≡ apart
+        by : (short : Bool) (p : Result Header HeaderError) → read_of message ≡ p → cond short apart (told_of b (told_by b cs) p message source) ≡ apart
         by true p e = refl
-        by false (Read h) e = rw ((not-eq-not {a = is_of b.keys h message source} {b = false}).0 (λ yes. away h e (of_leads h message source yes)))
-        by false BadLength e = refl
-        by false BadVersion e = refl
-        by false BadSuite e = refl
-        by false TooShort e = refl
+        by false (Ok h) e = rw ((not-eq-not {a = is_of b.keys h message source} {b = false}).0 (λ yes. away h e (of_leads h message source yes)))
+        by false (Err why) e = refl
 
 -- Totals, highest number and counters depend on the beginning and the calls after it alone: in any other table, at any other slot, they are the same.
 pub same_totals : {b : Beginning} {i j : ℕ} {t u : List ℕ} → Begins b i t → Begins b j u → (cs : List Call) → GoesOn i t cs → GoesOn j u cs

@@ -25,7 +25,6 @@ use Rattle.slots.proofs.Rewriting.{Around}
 use Rattle.slots.proofs.Settled.{restored_rewritten, same_around}
 use Rattle.slots.proofs.Slots.{length_of_slot}
 use Rattle.lookup.specs.Lookup.{leads_to}
-use Rattle.lookup.specs.declared.Found.TheVariants.{At}
 use Rattle.entries.specs.Install.{Left, done_at}
 use Rattle.entries.proofs.Outcomes.{Refuses, not_done}
 use Rattle.listing.specs.Listing.{listing_of, listed}
@@ -45,6 +44,7 @@ use Rattle.promises.proofs.Held.{Held, held_small, held_rewritten}
 use Rattle.promises.proofs.History.{history, history_traced, no_used_number}
 use Rattle.promises.proofs.Runs.{begun, stands_on}
 use Rattle.promises.proofs.Traces.{allowed_called}
+use Rattle.std.specs.Prelude.{Some}
 
 -- a load that is done takes what its text lists
 pub done_takes : (t text : List ℕ) → (loaded t text).answer.reply ≡ 0 → (l : Listing) × Takes t text l
@@ -101,7 +101,7 @@ same_listing text {l} {m} p q = let z : some l ≡ some m = sym p ∙ q in cc
 
 -- A load that is done at slot i begins a history there, if messages of the slot's key data lead to it: a table that was damaged may hold a twin below.
 pub load_begins : (t : List ℕ) → length t ≡ table_length → (text : List ℕ) (l : Listing) → listing_in text ≡ some l → (i : ℕ) → (loaded t text).answer ≡ done_at i
-    → let k = key_data_of (slot_of t i) in leads_to t k.flag k.key_id k.source ≡ At i → Begins (standing k (listed_entry l)) i (after t (load text))
+    → let k = key_data_of (slot_of t i) in leads_to t k.flag k.key_id k.source ≡ Some i → Begins (standing k (listed_entry l)) i (after t (load text))
 load_begins t long text l read i done leads = by (done_takes t text (ap (λ (a : Answer). a.reply) done))
   where
     k : KeyData
@@ -113,7 +113,7 @@ load_begins t long text l read i done leads = by (done_takes t text (ap (λ (a :
         let next = restored t i e in
         let was : Held k i t = record { long = long; sound = sound_facts k (rw slot at n.sound); keys = refl; leads = leads } in
         let held = held_rewritten was (restored_rewritten t i e long (held_small was)) in
-        let there = slot_begins next held.long i (subst (λ (x : KeyData). leads_to next x.flag x.key_id x.source ≡ At i) (sym held.keys) held.leads) (rw slot at (taken_undamaged long n)) in
+        let there = slot_begins next held.long i (subst (λ (x : KeyData). leads_to next x.flag x.key_id x.source ≡ Some i) (sym held.keys) held.leads) (rw slot at (taken_undamaged long n)) in
         let same : (loaded t text).table ≡ next = ap (λ (z : Left). z.table) n.is ∙ ap (λ (x : ℕ). restored t x e) slot in
         let listed-there = subst (λ (x : KeyData). Begins (standing x (entry_of (slot_of next i))) i next) held.keys there in
         subst (λ (z : Listing). Begins (standing k (listed_entry z)) i (loaded t text).table) is
@@ -133,7 +133,7 @@ module _ {b : Beginning} {i : ℕ} {t : List ℕ} (begins : Begins b i t) (cs : 
       let held = (stands_on (begun begins) cs goes).held in
       let keys = held.keys in
       subst (λ (k : KeyData). Begins (standing k (listed_entry l)) i (after ran (load text))) keys
-      (load_begins ran held.long text l read i done (subst (λ (k : KeyData). leads_to ran k.flag k.key_id k.source ≡ At i) (sym keys) held.leads))
+      (load_begins ran held.long text l read i done (subst (λ (k : KeyData). leads_to ran k.flag k.key_id k.source ≡ Some i) (sym keys) held.leads))
 
   -- after any further calls the slot accounts for them;
   pub history_loaded : (loaded ran text).answer ≡ done_at i → (ds : List Call) → GoesOn i (after ran (load text)) ds

@@ -13,16 +13,12 @@ use Rattle.window.specs.Window.{floor_of, marked, judge}
 use Rattle.window.specs.declared.Frame.{Frame}
 use Rattle.octets.specs.Octets.{put}
 use Rattle.answers.specs.Answers.{refused, output_room}
-use Rattle.format.specs.KeyData.{known, KeyData}
+use Rattle.format.specs.KeyData.{KeyData}
 use Rattle.format.specs.Suite.{suite_of, number_of, icv_length_of}
 use Rattle.format.specs.Header.{payload_length, cs_in, seq_num_in, read_of}
 use Rattle.message.specs.Sealing.{right}
-use Rattle.message.specs.declared.sealing.Opened.TheVariants.{Payload, Wrong}
 use Rattle.format.specs.declared.header.Header.{Header}
-use Rattle.format.specs.declared.header.Parsed.TheVariants.{Read}
 use Rattle.format.specs.declared.suite.Suite.{Suite}
-use Rattle.format.specs.declared.suite.Numbered.{Numbered}
-use Rattle.format.specs.declared.suite.Numbered.TheVariants.{Known, Unknown}
 use Rattle.listing.specs.Listing.{Listed, listed, listing_of}
 use Rattle.entries.specs.Change.{changed}
 use Rattle.entries.specs.Fresh.{fresh_slot}
@@ -33,8 +29,6 @@ use Rattle.gateway.specs.Receive.{Received, received, parsed, led, arrived, judg
 use Rattle.lookup.specs.Lookup.{leads_to, leads_elsewhere, first_free}
 use Rattle.slots.specs.Record.{undamaged}
 use Rattle.slots.specs.Table.{slot_of, cs_of, window_of, key_data_of, is_held}
-use Rattle.lookup.specs.declared.Found.{Found}
-use Rattle.lookup.specs.declared.Found.TheVariants.{At, Nothing}
 use Rattle.numbers.proofs.Tests.{and_left, and_right, neither_left, neither_right}
 use Rattle.capture.specs.Capture.{header_length, record_length, magic_of, is_bad, order_of, is_known, without, left_at, captured_at, original_at, is_cut, is_unreadable, data_at, ordered_at, record_at, records_from}
 use Rattle.capture.specs.declared.order.Order.{Order}
@@ -49,6 +43,7 @@ use Rattle.format.proofs.Soundness.{sound_facts}
 use Rattle.format.proofs.Suites.{suite_number}
 use Rattle.promises.proofs.Reading.{header_in, said_by_tests}
 use Rattle.promises.specs.Replies.{Reply, first_of, test_of, earlier, none_fits, Exactly, is_numbered, distinct, is_nothing, of_suite, is_long, led_to, slot_in, right_in, receive_replies, is_listing, stands_in, loadable_in, load_replies, install_replies, remove_replies, change_replies, listing_replies, report_replies, record_replies, protect_replies}
+use Rattle.std.specs.Prelude.{None, Ok, Option, Some, is_some}
 
 -- a choice between two, seen through a function or by the opposite test
 pushed : {A B : Type 0} (f : A → B) (b : Bool) (x y : A) → f (cond b x y) ≡ cond b (f x) (f y)
@@ -111,13 +106,13 @@ remove_reply t i =
     pushed (λ (l : Left). l.answer.reply) b _ _ ∙ sym (flipped b 16 0)
 
 module _ (t : List ℕ) where
-  free_reply : (fresh : List ℕ) (g : Found) → (placed t fresh g).answer.reply ≡ cond (is_nothing g) 15 0
-  free_reply fresh (At i) = refl
-  free_reply fresh Nothing = refl
+  free_reply : (fresh : List ℕ) (g : Option ℕ) → (placed t fresh g).answer.reply ≡ cond (is_nothing g) 15 0
+  free_reply fresh (Some i) = refl
+  free_reply fresh None = refl
 
-  twin_reply : (done : Left) (f : Found) → (unless_twin t done f).answer.reply ≡ cond (not (is_nothing f)) 14 done.answer.reply
-  twin_reply done (At i) = refl
-  twin_reply done Nothing = refl
+  twin_reply : (done : Left) (f : Option ℕ) → (unless_twin t done f).answer.reply ≡ cond (not (is_nothing f)) 14 done.answer.reply
+  twin_reply done (Some i) = refl
+  twin_reply done None = refl
 
 pub install_reply : (t : List ℕ) (k : KeyData) (f : Frame)
     → (installed t k f).answer.reply ≡ first_of (install_replies t k f)
@@ -137,14 +132,14 @@ change_reply t i k f = by (is_held t i) (is_fair k f) (leads_elsewhere t i k.fla
     refusal n = record { answer = refused n; table = t }
 
     done : Left
-    done = placed t (fresh_slot k f) (At i)
+    done = placed t (fresh_slot k f) (Some i)
 
-    by : (held fair : Bool) (led : Found) → (cond held (cond fair (unless_twin t done led) (refusal 13)) (refusal 16)).answer.reply
+    by : (held fair : Bool) (led : Option ℕ) → (cond held (cond fair (unless_twin t done led) (refusal 13)) (refusal 16)).answer.reply
         ≡ cond (not held) 16 (cond (not fair) 13 (cond (not (is_nothing led)) 14 0))
     by false fair led = refl
     by true false led = refl
-    by true true (At j) = refl
-    by true true Nothing = refl
+    by true true (Some j) = refl
+    by true true None = refl
 
 -- ---- receive
 
@@ -154,7 +149,7 @@ module _ (t : List ℕ) (i : ℕ) (h : Header) (m out : List ℕ) where
   unfolding checked handed_out
   checked_reply = by (right h (key_data_of (slot_of t i)) m)
     where
-      by : (icv : Bool) → (unsealed (cond icv (Payload (payload_length h m)) Wrong) t i h m out).answer.reply ≡ cond (not icv) 11 0
+      by : (icv : Bool) → (unsealed (cond icv (Some (payload_length h m)) None) t i h m out).answer.reply ≡ cond (not icv) 11 0
       by true = refl
       by false = refl
 
@@ -180,7 +175,7 @@ module _ (t : List ℕ) (i : ℕ) (h : Header) (m out : List ℕ) where
 
 module _ (t m source out : List ℕ) where
   -- from reply 6 on, of what was found
-  abbrev onward : Found → ℕ
+  abbrev onward : Option ℕ → ℕ
   onward f =
       let s = slot_in t f in
       cond (is_nothing f) 6
@@ -190,9 +185,9 @@ module _ (t m source out : List ℕ) where
       (cond (marked (window_of s) (seq_num_in m)) 10
       (cond (not (right_in (read_of m) s m)) 11 0)))))
 
-  found_reply : (h : Header) → read_of m ≡ Read h → h.seqnum ≡ seq_num_in m → number_of h.suite ≡ cs_in m → (f : Found) → (led f t h m out).answer.reply ≡ onward f
-  found_reply h e n c Nothing = refl
-  found_reply h e n c (At i) = slot_reply t i h m out ∙ rw (e, ← n, c)
+  found_reply : (h : Header) → read_of m ≡ Ok h → h.seqnum ≡ seq_num_in m → number_of h.suite ≡ cs_in m → (f : Option ℕ) → (led f t h m out).answer.reply ≡ onward f
+  found_reply h e n c None = refl
+  found_reply h e n c (Some i) = slot_reply t i h m out ∙ rw (e, ← n, c)
 
   pub receive_reply : (received t m source out).answer.reply ≡ first_of (receive_replies t m source out)
   unfolding received receive_replies
@@ -278,22 +273,22 @@ record_reply o is file at some =
 
 module _ (s : Sender) (payload out : List ℕ) where
   -- sound key data names a suite
-  suite_there : sound_record s.keys ≡ true → known (suite_of s.keys.suite) ≡ true
+  suite_there : sound_record s.keys ≡ true → is_some (suite_of s.keys.suite) ≡ true
   suite_there e = (sound_facts (key_data_in s.keys) (record_facts s.keys e).keys).suite_known
 
   -- what 2,048 bytes leave beside header and ICV
   limit : (suite : Suite) → payload_limit suite s.keys ≡ 2039 - length (key_data_in s.keys).key_id - icv_length_of suite
   limit suite = omega arith
 
-  by_suite : (n : Numbered) → n ≡ suite_of s.keys.suite → (b : Bool) → (sound_record s.keys && ltb s.current (2 ^ 48)) ≡ b
+  by_suite : (n : Option Suite) → n ≡ suite_of s.keys.suite → (b : Bool) → (sound_record s.keys && ltb s.current (2 ^ 48)) ≡ b
       → (cond b (numbered n s payload out) (refusal 7 s out)).answer.reply
       ≡ cond (not b) 7 (cond (of_suite (is_long s payload) n) 2 (cond (eqb s.current (2 ^ 48 - 1)) 12 0))
   unfolding sent
   by_suite n q false p = refl
-  by_suite Unknown q true p =
-      let e : ◌≡◌ {A = Bool} false true = ap known q ∙ suite_there (and_left (sound_record s.keys) (ltb s.current (2 ^ 48)) p) in
+  by_suite None q true p =
+      let e : ◌≡◌ {A = Bool} false true = ap is_some q ∙ suite_there (and_left (sound_record s.keys) (ltb s.current (2 ^ 48)) p) in
       cc
-  by_suite (Known suite) q true p =
+  by_suite (Some suite) q true p =
       pushed (λ (o : Outcome). o.answer.reply) (ltb (payload_limit suite s.keys) (length payload)) _ _
       ∙ rw (limit suite) (ap (cond (is_long s payload suite) 2) (pushed (λ (o : Outcome). o.answer.reply) (eqb s.current (2 ^ 48 - 1)) _ _))
 

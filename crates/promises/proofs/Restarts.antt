@@ -20,7 +20,6 @@ use Rattle.answers.specs.declared.Answer.{Answer}
 use Rattle.format.specs.Header.{read_of}
 use Rattle.format.specs.KeyData.{KeyData, sound_of}
 use Rattle.format.specs.declared.header.Header.{Header}
-use Rattle.format.specs.declared.header.Parsed.TheVariants.{Read}
 use Rattle.format.proofs.Soundness.{sound_facts}
 use Rattle.message.specs.Sealing.{opened}
 use Rattle.window.specs.declared.Frame.{Frame}
@@ -33,7 +32,6 @@ use Rattle.slots.proofs.Rewriting.{Around, written_around, rewritten_slot}
 use Rattle.slots.proofs.Settled.{undamaged_fits, settled_around, same_around, restored_rewritten, entry_restored}
 use Rattle.slots.proofs.Slots.{length_of_slot}
 use Rattle.lookup.specs.Lookup.{matches, leads_to, first_free}
-use Rattle.lookup.specs.declared.Found.TheVariants.{At, Nothing}
 use Rattle.lookup.proofs.Firsts.{free_small}
 use Rattle.entries.specs.Change.{changed}
 use Rattle.entries.specs.Fresh.{fresh_slot}
@@ -63,6 +61,7 @@ use Rattle.promises.proofs.Runs.{begun, stands_on, hands_on, accounts, done_nowh
 use Rattle.promises.proofs.Steps.{Stands, Does, arrives, replied, step, unharmed}
 use Rattle.promises.proofs.Traces.{trace_results, trace_run}
 use Rattle.promises.proofs.Worthless.{answered_gives}
+use Rattle.std.specs.Prelude.{None, Ok, Some}
 
 -- ---- what is told settles the whole answer, and the output
 
@@ -85,7 +84,7 @@ answer_is : (a : Answer) {reply n slot seqnum : ℕ} → a.reply ≡ reply → a
 answer_is a p q r s = rw (sym p, sym q, sym r, sym s) refl
 
 module _ {b : Beginning} {i : ℕ} {t : List ℕ} {past : List Told} (now : Stands b i t past) (m source out : List ℕ) (bytes : Bytes m)
-    (room : output_room ≤ length out) (h : Header) (read : read_of m ≡ Read h) (mine : is_of b.keys h m source ≡ true) where
+    (room : output_room ≤ length out) (h : Header) (read : read_of m ≡ Ok h) (mine : is_of b.keys h m source ≡ true) where
   abbrev c : Call
   c = arrival m source out
 
@@ -150,7 +149,7 @@ record InStep (b : Beginning) (i : ℕ) (t u : List ℕ) (past : List Told) : Ty
 
 module _ {b : Beginning} {i : ℕ} where
   module _ {t u : List ℕ} {past : List Told} (both : InStep b i t u past) where
-    same_answer : (m source out : List ℕ) → Bytes m → (h : Header) → read_of m ≡ Read h → is_of b.keys h m source ≡ true
+    same_answer : (m source out : List ℕ) → Bytes m → (h : Header) → read_of m ≡ Ok h → is_of b.keys h m source ≡ true
         → let p = called t (arrival m source out) in let q = called u (arrival m source out) in (p.answer ≡ q.answer) × (p.out ≡ q.out)
     unfolding received
     same_answer m source out bytes h read mine = by (ltb (length out) output_room) refl
@@ -263,7 +262,7 @@ stands_begins : {b : Beginning} {i : ℕ} {t : List ℕ} {past : List Told} → 
 stands_begins {b} {i} {t} now =
     let keys = now.held.keys in
     subst (λ (k : KeyData). Begins (standing k (entry_of (slot_of t i))) i t) keys
-    (slot_begins t now.held.long i (subst (λ (k : KeyData). leads_to t k.flag k.key_id k.source ≡ At i) (sym keys) now.held.leads) (unharmed now))
+    (slot_begins t now.held.long i (subst (λ (k : KeyData). leads_to t k.flag k.key_id k.source ≡ Some i) (sym keys) now.held.leads) (unharmed now))
 
 -- ---- the restart
 
@@ -433,11 +432,11 @@ module _ (t u : List ℕ) (tl : length t ≡ table_length) (ul : length u ≡ ta
 abbrev empty : List ℕ
 empty = replicate table_length 0
 
-nowhere : (flag : ℕ) (key_id source : List ℕ) → leads_to empty flag key_id source ≡ Nothing
+nowhere : (flag : ℕ) (key_id source : List ℕ) → leads_to empty flag key_id source ≡ None
 unfolding leads_to matches
 nowhere flag key_id source = refl
 
-first_slot : first_free empty ≡ At 0
+first_slot : first_free empty ≡ Some 0
 unfolding first_free
 first_slot = refl
 

@@ -18,7 +18,6 @@ use Rattle.format.specs.Header.{read_of}
 use Rattle.format.specs.KeyData.{KeyData}
 use Rattle.format.specs.Suite.{number_of}
 use Rattle.format.specs.declared.header.Header.{Header}
-use Rattle.format.specs.declared.header.Parsed.TheVariants.{Read}
 use Rattle.slots.specs.Table.{slot_of, key_data_of, window_of, entry_of, table_length}
 use Rattle.entries.specs.Install.{done_at}
 use Rattle.gateway.specs.Receive.{Received, received}
@@ -28,6 +27,7 @@ use Rattle.promises.specs.History.{Begins, one, handed, handed_by, Unended, Goes
 use Rattle.promises.proofs.Arrivals.{taken_new}
 use Rattle.promises.proofs.Counting.{counted_new, counted_told}
 use Rattle.promises.proofs.History.{history, history_traced, installed_begins}
+use Rattle.std.specs.Prelude.{Ok}
 
 -- ---- what is counted
 
@@ -88,7 +88,7 @@ module _ {b : Beginning} {i : ℕ} {t : List ℕ} (begins : Begins b i t) (cs : 
       reached_start b past x.number (counted_new b past c x is).reached
 
   -- and one of its suite that comes with room is answered 9.
-  pub below_start : (message source out : List ℕ) → Bytes message → output_room ≤ length out → (h : Header) → read_of message ≡ Read h
+  pub below_start : (message source out : List ℕ) → Bytes message → output_room ≤ length out → (h : Header) → read_of message ≡ Ok h
       → is_of b.keys h message source ≡ true → eqb b.keys.suite (number_of h.suite) ≡ true → h.seqnum < b.frame.start
       → (called (run t cs) (arrival message source out)).answer.reply ≡ below_floor
   below_start message source out bytes room h read mine suite low =

@@ -21,8 +21,6 @@ use Rattle.format.specs.Header.{read_of, payload_length, key_id_bytes}
 use Rattle.format.specs.KeyData.{KeyData}
 use Rattle.format.specs.Suite.{number_of}
 use Rattle.format.specs.declared.header.Header.{Header}
-use Rattle.format.specs.declared.header.Parsed.{Parsed}
-use Rattle.format.specs.declared.header.Parsed.TheVariants.{Read, BadLength, BadVersion, BadSuite, TooShort}
 use Rattle.format.proofs.Soundness.{sound_facts}
 use Rattle.format.proofs.Room.{read_room, payload_most, number_small}
 use Rattle.message.specs.Sealing.{right, opened}
@@ -32,8 +30,6 @@ use Rattle.slots.proofs.Rewriting.{Rewritten, raised_rewritten, rewritten_slot}
 use Rattle.slots.proofs.Settled.{undamaged_fits, raised_replays, raised_forged, settled_rewritten, restored_rewritten, entry_settled}
 use Rattle.slots.proofs.Slots.{length_of_slot}
 use Rattle.lookup.specs.Lookup.{matches, leads_to}
-use Rattle.lookup.specs.declared.Found.{Found}
-use Rattle.lookup.specs.declared.Found.TheVariants.{At, Nothing}
 use Rattle.lookup.proofs.Firsts.{leads_small, leads_matches, leads_nowhere, elsewhere_nowhere, free_small, free_empty}
 use Rattle.lookup.proofs.Matching.{match_facts, no_match}
 use Rattle.entries.specs.Fresh.{fresh_slot}
@@ -53,6 +49,9 @@ use Rattle.promises.specs.Counted.{Beginning, Message, is_below, is_used, is_of,
 use Rattle.promises.specs.History.{reply_to, Handed, nothing, one, counted_of, slot_by, counters_by, entry_by, answered, handed, ends}
 use Rattle.promises.proofs.Counting.{Agrees, verdict_agrees, still_agrees, taken_agrees}
 use Rattle.promises.proofs.Held.{Held, is_named, names_facts, names_test, names_back, match_names, held_small, held_alike, held_undamaged, leads_here, leads_named, slot_beside, held_beside, held_rewritten, held_aside, slot_aside}
+use Rattle.std.specs.Prelude.{Err, None, Ok, Option, Result, Some}
+use Rattle.format.specs.declared.header.HeaderError.{HeaderError}
+use Rattle.format.specs.declared.header.HeaderError.TheVariants.{BadLength, BadVersion, BadSuite, TooShort}
 
 -- the entry in slot i agrees with what was counted
 pub record Stands (b : Beginning) (i : ℕ) (t : List ℕ) (past : List Told) : Type 0 where
@@ -70,7 +69,7 @@ module _ (b : Beginning) (i : ℕ) (t : List ℕ) (past : List Told) where
   -- the same of an arrival, and what it writes
   pub record Meets (m source out : List ℕ) (w : Told) (r : Received) : Type 0 where
     pub does : Does (answered i (arrival m source out) r.answer) r.table w
-    pub writes : (y : Message) → counted_of w ≡ one y → (h : Header) → read_of m ≡ Read h → r.out ≡ put out 0 (opened h b.keys m)
+    pub writes : (y : Message) → counted_of w ≡ one y → (h : Header) → read_of m ≡ Ok h → r.out ≡ put out 0 (opened h b.keys m)
 
   -- and of one that leads to the slot
   pub record Lands (m source out : List ℕ) (w : Told) (r : Received) : Type 0 where
@@ -101,18 +100,18 @@ module _ {b : Beginning} {i : ℕ} {t : List ℕ} {past : List Told} (now : Stan
 
   module _ (h : Header) (m source out : List ℕ) where
     -- another slot is written, behind what an install settled
-    beside : (j : ℕ) → (j ≡ i → ⊥) → leads_to t h.flag (key_id_bytes h m) source ≡ At j → {s u : List ℕ} → Rewritten t j s u
+    beside : (j : ℕ) → (j ≡ i → ⊥) → leads_to t h.flag (key_id_bytes h m) source ≡ Some j → {s u : List ℕ} → Rewritten t j s u
         → (given : Handed) → given ≡ nothing → Does b i t past given u apart
     beside j other l w given g =
         let a = match_facts h.flag (key_id_bytes h m) source (slot_of t j) (leads_matches t j h.flag (key_id_bytes h m) source l) in
         let small = leads_small t j h.flag (key_id_bytes h m) source l in
         passing given _ g (held_aside held j small w a.keyid_short a.source_short other) (slot_aside held j small w a.keyid_short a.source_short other)
 
-    elsewhere : (f : Found) → leads_to t h.flag (key_id_bytes h m) source ≡ f → (f ≡ At i → ⊥) → Meets b i t past m source out apart (led f t h m out)
+    elsewhere : (f : Option ℕ) → leads_to t h.flag (key_id_bytes h m) source ≡ f → (f ≡ Some i → ⊥) → Meets b i t past m source out apart (led f t h m out)
     unfolding handed_out
-    elsewhere Nothing l other = refusing m source out no_entry (lit≤ tt)
-    elsewhere (At j) l other =
-        let apart-slot : j ≡ i → ⊥ = λ same. other (ap At same) in
+    elsewhere None l other = refusing m source out no_entry (lit≤ tt)
+    elsewhere (Some j) l other =
+        let apart-slot : j ≡ i → ⊥ = λ same. other (ap Some same) in
         let small = leads_small t j h.flag (key_id_bytes h m) source l in
         of_arrived (Meets b i t past m source out apart) t out (λ n some low. refusing m source out n some) j h m
         (λ unharmed n least most.
@@ -132,7 +131,7 @@ module _ {b : Beginning} {i : ℕ} {t : List ℕ} {past : List Told} (now : Stan
   pub unharmed : undamaged (slot_of t i) ≡ true
   unharmed = held_undamaged held now.agrees.unharmed
 
-  module _ (h : Header) (m source out : List ℕ) (bytes : Bytes m) (read : read_of m ≡ Read h) where
+  module _ (h : Header) (m source out : List ℕ) (bytes : Bytes m) (read : read_of m ≡ Ok h) where
     abbrev message : Message
     message = record { number = h.seqnum; payload = payload_length h m }
 
@@ -229,25 +228,25 @@ module _ {b : Beginning} {i : ℕ} {t : List ℕ} {past : List Told} (now : Stan
 
   module _ (m source out : List ℕ) (bytes : Bytes m) where
     -- a message of the entry
-    lands : (h : Header) → read_of m ≡ Read h → is_of k h m source ≡ true
-        → Lands b i t past m source out (told_of b past (Read h) m source) (led (leads_to t h.flag (key_id_bytes h m) source) t h m out)
+    lands : (h : Header) → read_of m ≡ Ok h → is_of k h m source ≡ true
+        → Lands b i t past m source out (told_of b past (Ok h) m source) (led (leads_to t h.flag (key_id_bytes h m) source) t h m out)
     lands h read mine =
         rw (mine, leads_here held h.flag (key_id_bytes h m) source (names_facts k h.flag (key_id_bytes h m) source mine)) (here h m source out bytes read)
 
-    reads : (p : Parsed) → read_of m ≡ p → Meets b i t past m source out (told_of b past p m source) (parsed p t m source out)
-    reads (Read h) e = by (is_of k h m source) refl
+    reads : (p : Result Header HeaderError) → read_of m ≡ p → Meets b i t past m source out (told_of b past p m source) (parsed p t m source out)
+    reads (Ok h) e = by (is_of k h m source) refl
       where
         by : (x : Bool) → is_of k h m source ≡ x
-            → Meets b i t past m source out (told_of b past (Read h) m source) (led (leads_to t h.flag (key_id_bytes h m) source) t h m out)
+            → Meets b i t past m source out (told_of b past (Ok h) m source) (led (leads_to t h.flag (key_id_bytes h m) source) t h m out)
         by true p = (lands h e p).meets
         by false p =
             rw p
             (elsewhere h m source out (leads_to t h.flag (key_id_bytes h m) source) refl
             (λ l. true≢false (sym (names_test k h.flag (key_id_bytes h m) source (leads_named held h.flag (key_id_bytes h m) source l)) ∙ p)))
-    reads BadLength e = refusing m source out bad_length (lit≤ tt)
-    reads BadVersion e = refusing m source out bad_version (lit≤ tt)
-    reads BadSuite e = refusing m source out bad_suite (lit≤ tt)
-    reads TooShort e = refusing m source out too_short (lit≤ tt)
+    reads (Err BadLength) e = refusing m source out bad_length (lit≤ tt)
+    reads (Err BadVersion) e = refusing m source out bad_version (lit≤ tt)
+    reads (Err BadSuite) e = refusing m source out bad_suite (lit≤ tt)
+    reads (Err TooShort) e = refusing m source out too_short (lit≤ tt)
 
     pub arrives : Meets b i t past m source out (told b past (arrival m source out)) (called t (arrival m source out))
     unfolding received
@@ -259,7 +258,7 @@ module _ {b : Beginning} {i : ℕ} {t : List ℕ} {past : List Told} (now : Stan
         by false = reads (read_of m) refl
 
     -- the reply to a message of the entry is the one that is told
-    pub replied : output_room ≤ length out → (h : Header) → read_of m ≡ Read h → is_of k h m source ≡ true
+    pub replied : output_room ≤ length out → (h : Header) → read_of m ≡ Ok h → is_of k h m source ≡ true
         → (called t (arrival m source out)).answer.reply ≡ reply_to (told b past (arrival m source out))
     unfolding received
     replied room h read mine = rw (le-ltb (length out) output_room room, read) (lands h read mine).replies

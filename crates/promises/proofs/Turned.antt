@@ -14,8 +14,6 @@ use Rattle.answers.specs.Answers.{output_room, output_small}
 use Rattle.octets.specs.Octets.{Bytes}
 use Rattle.window.specs.Counters.{cut}
 use Rattle.format.specs.Header.{read_of}
-use Rattle.format.specs.declared.header.Parsed.{Parsed}
-use Rattle.format.specs.declared.header.Parsed.TheVariants.{Read, BadLength, BadVersion, BadSuite, TooShort}
 use Rattle.slots.specs.Table.{slot_of, entry_of}
 use Rattle.gateway.specs.Receive.{Received}
 use Rattle.gateway.proofs.Arrivals.{short_output}
@@ -26,6 +24,9 @@ use Rattle.promises.proofs.History.{history}
 use Rattle.promises.proofs.Runs.{begun}
 use Rattle.promises.proofs.Steps.{Stands, replied, step}
 use Rattle.promises.proofs.Traces.{trace_results, trace_run}
+use Rattle.std.specs.Prelude.{Err, Ok, Result}
+use Rattle.format.specs.declared.header.HeaderError.{HeaderError}
+use Rattle.format.specs.declared.header.Header.{Header}
 
 -- a test of what is told, and one of the reply that says the same: no arrival without room passes, nor one that is nothing to the entry
 record SaidBy (is : Told → Bool) (test : ℕ → Bool) : Type 0 where
@@ -44,20 +45,17 @@ module _ {is : Told → Bool} {test : ℕ → Bool} (said : SaidBy is test) {b :
         mine : Bool
         mine = is_mine b.keys (read_of message) message source
 
-        read : (p : Parsed) → read_of message ≡ p → ltb (length out) output_room ≡ false
+        read : (p : Result Header HeaderError) → read_of message ≡ p → ltb (length out) output_room ≡ false
             → is (told_of b past p message source) ≡ (is_mine b.keys p message source && test reply)
-        read (Read h) e room = at (is_of b.keys h message source) refl
+        read (Ok h) e room = at (is_of b.keys h message source) refl
           where
-            at : (x : Bool) → is_of b.keys h message source ≡ x → is (told_of b past (Read h) message source) ≡ (is_of b.keys h message source && test reply)
+            at : (x : Bool) → is_of b.keys h message source ≡ x → is (told_of b past (Ok h) message source) ≡ (is_of b.keys h message source && test reply)
             at true m =
                 let r = replied now message source out bytes (ltb-false (length out) output_room room) h e m in
-                let same : reply ≡ reply_to (told_of b past (Read h) message source) = r ∙ rw (room, e) in
-                said.says (told_of b past (Read h) message source) ∙ ap test (sym same) ∙ sym (ap (λ (y : Bool). y && test reply) m)
+                let same : reply ≡ reply_to (told_of b past (Ok h) message source) = r ∙ rw (room, e) in
+                said.says (told_of b past (Ok h) message source) ∙ ap test (sym same) ∙ sym (ap (λ (y : Bool). y && test reply) m)
             at false m = rw m said.none
-        read BadLength e room = said.none
-        read BadVersion e room = said.none
-        read BadSuite e room = said.none
-        read TooShort e room = said.none
+        read (Err why) e room = said.none
 
         by : (short : Bool) → ltb (length out) output_room ≡ short → is (cond short apart (told_of b past (read_of message) message source)) ≡ (mine && test reply)
         by true e =

@@ -2,7 +2,7 @@
 -- counted before, and no counted message had its number." It is told by where the history began and by the calls since then. No table is
 -- among the arguments, so no mark, highest number, total or counter of a table can enter. And what is turned away (02, No. 8): "Demand 3 gains them, each
 -- defined from the history, cut at that limit".
-use Rattle.std.specs.Prelude.{Bool, true, false, cond, not, ◌&&◌, ◌||◌, List, [], ◌∷◌, map, ℕ, ◌+◌, max, eqb, ltb, length}
+use Rattle.std.specs.Prelude.{Bool, true, false, cond, not, ◌&&◌, ◌||◌, List, [], ◌∷◌, map, ℕ, ◌+◌, max, eqb, ltb, length, Err, Ok, Result}
 use Rattle.answers.specs.Answers.{output_room}
 use Rattle.octets.specs.Octets.{same}
 use Rattle.window.specs.Window.{floor_at, floor_of, marked}
@@ -15,9 +15,8 @@ use Rattle.format.specs.Suite.{number_of}
 use Rattle.format.specs.Header.{seq_num_in, read_of, payload_length, key_id_bytes}
 use Rattle.message.specs.Sealing.{right}
 use Rattle.format.specs.declared.header.Header.{Header}
-use Rattle.format.specs.declared.header.Parsed.{Parsed}
-use Rattle.format.specs.declared.header.Parsed.TheVariants.{Read, BadLength, BadVersion, BadSuite, TooShort}
 use Rattle.promises.specs.Calls.{Call, arrival, install, remove, change, load}
+use Rattle.format.specs.declared.header.HeaderError.{HeaderError}
 
 -- ---- where a history begins
 
@@ -147,16 +146,13 @@ tested false false false x = forged
 tested false false true x = new x
 
 -- an arrival with room, by its header: a message of the entry, and of its suite, is tested
-abbrev pub told_of : Beginning → List Told → Parsed → List ℕ → List ℕ → Told
-told_of b past (Read h) message source =
+abbrev pub told_of : Beginning → List Told → Result Header HeaderError → List ℕ → List ℕ → Told
+told_of b past (Ok h) message source =
     cond (is_of b.keys h message source && eqb b.keys.suite (number_of h.suite))
     (tested (is_below b past h.seqnum) (is_used b past h.seqnum) (right h b.keys message)
     (record { number = h.seqnum; payload = payload_length h message }))
     apart
-told_of b past BadLength message source = apart
-told_of b past BadVersion message source = apart
-told_of b past BadSuite message source = apart
-told_of b past TooShort message source = apart
+told_of b past (Err why) message source = apart
 
 abbrev pub told : Beginning → List Told → Call → Told
 told b past (arrival message source out) = cond (ltb (length out) output_room) apart (told_of b past (read_of message) message source)
@@ -180,12 +176,9 @@ counted b cs = messages (told_by b cs)
 -- ---- the demand's sentence, which says the same of a call (`counted_words`)
 
 -- "It is genuine if none of replies 2, 3, 4, 5, 6 and 8 fits it and its ICV is right under that entry's key; the window plays no part."
-abbrev pub is_genuine : KeyData → Parsed → List ℕ → List ℕ → Bool
-is_genuine k (Read h) message source = is_of k h message source && eqb k.suite (number_of h.suite) && right h k message
-is_genuine k BadLength message source = false
-is_genuine k BadVersion message source = false
-is_genuine k BadSuite message source = false
-is_genuine k TooShort message source = false
+abbrev pub is_genuine : KeyData → Result Header HeaderError → List ℕ → List ℕ → Bool
+is_genuine k (Ok h) message source = is_of k h message source && eqb k.suite (number_of h.suite) && right h k message
+is_genuine k (Err why) message source = false
 
 -- "if it is genuine, came with room, is not below the floor of the highest number counted before, and no counted message had its number"
 abbrev pub is_counted : Beginning → List Told → Call → Bool

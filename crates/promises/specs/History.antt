@@ -2,7 +2,7 @@
 -- different numbers were counted and the sum of their payload lengths"; and its two counters how many arrivals it refused with 9 or 10, and with
 -- 11, cut at their limit (02, No. 8). A history begins with any undamaged entry, a fresh one or one that has a past, and goes on until the entry is
 -- removed or changed, or takes a listing.
-use Rattle.std.specs.Prelude.{◌≡◌, Bool, true, false, cond, ◌&&◌, ◌||◌, List, [], ◌∷◌, ℕ, ◌+◌, ◌≤◌, ◌<◌, eqb, length, take, drop}
+use Rattle.std.specs.Prelude.{◌≡◌, Bool, true, false, cond, ◌&&◌, ◌||◌, List, [], ◌∷◌, ℕ, ◌+◌, ◌≤◌, ◌<◌, eqb, length, take, drop, Err, Ok, Result, Some}
 use Rattle.std.proofs.Math.Option.{some}
 use Rattle.answers.specs.Answers.{output_room, other_suite, below_floor, repeated, wrong_icv}
 use Rattle.answers.specs.declared.Answer.{Answer}
@@ -14,17 +14,15 @@ use Rattle.window.specs.Entry.{Entry, taken, counting}
 use Rattle.format.specs.Header.{read_of}
 use Rattle.format.specs.KeyData.{KeyData}
 use Rattle.format.specs.declared.header.Header.{Header}
-use Rattle.format.specs.declared.header.Parsed.{Parsed}
-use Rattle.format.specs.declared.header.Parsed.TheVariants.{Read, BadLength, BadVersion, BadSuite, TooShort}
 use Rattle.slots.specs.Table.{slot_of, window_of, entry_of, key_data_of, counters_of, settled_in, raised_in, slot_count, table_length, replays_at, forged_at, spare_at}
 use Rattle.slots.specs.Record.{undamaged}
 use Rattle.lookup.specs.Lookup.{leads_to}
-use Rattle.lookup.specs.declared.Found.TheVariants.{At}
 use Rattle.entries.specs.Install.{is_fair}
 use Rattle.form.specs.Form.{Listing, listing_in}
 use Rattle.gateway.specs.Receive.{Received}
 use Rattle.promises.specs.Calls.{Call, arrival, install, remove, change, load, OfBytes, called, run, results, is_done}
 use Rattle.promises.specs.Counted.{Beginning, Message, Told, apart, below, used, forged, new, messages, numbers_of, numbers, is_in, counters_since, highest_since, is_of, told}
+use Rattle.format.specs.declared.header.HeaderError.{HeaderError}
 
 -- ---- where a history begins in a table
 
@@ -32,7 +30,7 @@ use Rattle.promises.specs.Counted.{Beginning, Message, Told, apart, below, used,
 pub record Begins (b : Beginning) (i : ℕ) (t : List ℕ) : Type 0 where
   pub long : length t ≡ table_length
   pub keys : key_data_of (slot_of t i) ≡ b.keys
-  pub leads : leads_to t b.keys.flag b.keys.key_id b.keys.source ≡ At i
+  pub leads : leads_to t b.keys.flag b.keys.key_id b.keys.source ≡ Some i
   pub unharmed : undamaged (slot_of t i) ≡ true
   pub frame : (window_of (slot_of t i)).frame ≡ b.frame
   pub highest : (window_of (slot_of t i)).highest ≡ b.highest
@@ -124,12 +122,9 @@ reply_to forged = wrong_icv
 reply_to (new x) = 0
 
 -- whether a message of the entry comes with a header that can be read
-abbrev pub is_mine : KeyData → Parsed → List ℕ → List ℕ → Bool
-is_mine k (Read h) message source = is_of k h message source
-is_mine k BadLength message source = false
-is_mine k BadVersion message source = false
-is_mine k BadSuite message source = false
-is_mine k TooShort message source = false
+abbrev pub is_mine : KeyData → Result Header HeaderError → List ℕ → List ℕ → Bool
+is_mine k (Ok h) message source = is_of k h message source
+is_mine k (Err why) message source = false
 
 -- whether a call is an arrival of the entry that came back with a reply that passes a test; how many of several calls are; and the tests of the two
 -- counters
@@ -203,7 +198,7 @@ pub record Accounts (b : Beginning) (i : ℕ) (t : List ℕ) (past : List Told) 
   -- exactly what is counted is handed out at the slot by the next call
   pub exactly : (c : Call) → OfBytes c → handed i t c ≡ counted_of (told b past c)
   -- a message of the entry that comes with room and has a header that can be read meets the reply that is told
-  pub replies : (message source out : List ℕ) → Bytes message → output_room ≤ length out → (h : Header) → read_of message ≡ Read h
+  pub replies : (message source out : List ℕ) → Bytes message → output_room ≤ length out → (h : Header) → read_of message ≡ Ok h
       → is_of b.keys h message source ≡ true → (called t (arrival message source out)).answer.reply ≡ reply_to (told b past (arrival message source out))
   -- the totals: what stood there, and how many different numbers were counted, and the sum of their payload lengths
   pub accepted : (entry_of (slot_of t i)).accepted ≡ b.accepted + length (different (numbers past))
@@ -226,7 +221,7 @@ pub record Accounts (b : Beginning) (i : ℕ) (t : List ℕ) (past : List Told) 
 pub record SameFor (k : KeyData) (i : ℕ) (t u : List ℕ) : Type 0 where
   pub entries : entry_of (slot_of t i) ≡ entry_of (slot_of u i)
   pub hands : (c : Call) → OfBytes c → handed i t c ≡ handed i u c
-  pub answers : (message source out : List ℕ) → Bytes message → (h : Header) → read_of message ≡ Read h → is_of k h message source ≡ true
+  pub answers : (message source out : List ℕ) → Bytes message → (h : Header) → read_of message ≡ Ok h → is_of k h message source ≡ true
       → let a = called t (arrival message source out) in let b = called u (arrival message source out) in (a.answer ≡ b.answer) × (a.out ≡ b.out)
 
 -- No change of slot i to sound data is asked for: whether such a one is refused hangs on the names in the other slots, which two tables need not share.

@@ -1,25 +1,19 @@
 -- Each reply's own case (01, "Replies"; 02, No. 1, 2, 4, 6 and 7), and the rule that joins them: the first that fits, in the listed order, is given; where none fits, 0.
-use Rattle.std.specs.Prelude.{◌≡◌, Bool, true, false, cond, not, ◌||◌, ◌&&◌, List, [], ◌∷◌, ℕ, ◌+◌, ◌-◌, ◌^◌, eqb, ltb, length}
-use Rattle.std.proofs.Math.Option.{Option, none, some}
+use Rattle.std.specs.Prelude.{◌≡◌, Bool, true, false, cond, not, ◌||◌, ◌&&◌, List, [], ◌∷◌, ℕ, ◌+◌, ◌-◌, ◌^◌, eqb, ltb, length, Err, None, Ok, Option, Result, Some, is_some}
+use Rattle.std.proofs.Math.Option.{Option as Maybe, none, some}
 use Rattle.answers.specs.Answers.{output_room}
 use Rattle.octets.specs.Octets.{part}
 use Rattle.window.specs.Window.{floor_of, marked}
 use Rattle.window.specs.declared.Frame.{Frame}
 use Rattle.format.specs.KeyId.{length_of}
-use Rattle.format.specs.KeyData.{known, KeyData}
+use Rattle.format.specs.KeyData.{KeyData}
 use Rattle.format.specs.Suite.{suite_of, icv_length_of}
 use Rattle.format.specs.Header.{flag_in, version_in, cs_in, key_id_in, seq_num_in, read_of, least_message, greatest_message}
 use Rattle.message.specs.Sealing.{right}
-use Rattle.format.specs.declared.header.Parsed.{Parsed}
-use Rattle.format.specs.declared.header.Parsed.TheVariants.{Read, BadLength, BadVersion, BadSuite, TooShort}
 use Rattle.format.specs.declared.suite.Suite.{Suite}
-use Rattle.format.specs.declared.suite.Numbered.{Numbered}
-use Rattle.format.specs.declared.suite.Numbered.TheVariants.{Known, Unknown}
 use Rattle.slots.specs.Table.{slot_of, cs_of, window_of, slot_count, key_data_of, is_held}
 use Rattle.lookup.specs.Lookup.{leads_to, leads_elsewhere, first_free}
 use Rattle.slots.specs.Record.{undamaged}
-use Rattle.lookup.specs.declared.Found.{Found}
-use Rattle.lookup.specs.declared.Found.TheVariants.{At, Nothing}
 use Rattle.entries.specs.Install.{is_fair}
 use Rattle.form.specs.Form.{Listing, listing_in}
 use Rattle.loading.specs.Load.{stands, listed_entry, loadable}
@@ -28,6 +22,8 @@ use Rattle.capture.specs.declared.order.Order.{Order}
 use Rattle.feed.specs.Report.{text_room}
 use Rattle.sender.specs.Protect.{key_data_in, sound_record}
 use Rattle.sender.specs.declared.Sender.{Sender}
+use Rattle.format.specs.declared.header.HeaderError.{HeaderError}
+use Rattle.format.specs.declared.header.Header.{Header}
 
 -- a reply and its case
 pub record Reply : Type 0 where
@@ -73,42 +69,39 @@ abbrev pub distinct : List Reply → Bool
 distinct [] = true
 distinct (r ∷ rs) = not (eqb r.number 0) && not (is_numbered r.number rs) && distinct rs
 
-abbrev pub is_nothing : Found → Bool
-is_nothing (At i) = false
-is_nothing Nothing = true
+abbrev pub is_nothing : Option ℕ → Bool
+is_nothing (Some i) = false
+is_nothing None = true
 
 -- ---- receive
 
 -- what is asked of the suite with a number; where there is none, that was answered before
-abbrev pub of_suite : (Suite → Bool) → Numbered → Bool
-of_suite asked (Known s) = asked s
-of_suite asked Unknown = false
+abbrev pub of_suite : (Suite → Bool) → Option Suite → Bool
+of_suite asked (Some s) = asked s
+of_suite asked None = false
 
 -- "shorter than 9 + L + T", where T is the length of the suite's ICV (02, No. 5)
 abbrev pub is_short : List ℕ → Suite → Bool
 is_short m s = ltb (length m) (9 + length_of (key_id_in m) + icv_length_of s)
 
 -- where a message leads
-abbrev pub led_to : List ℕ → List ℕ → List ℕ → Found
+abbrev pub led_to : List ℕ → List ℕ → List ℕ → Option ℕ
 led_to t m source = leads_to t (flag_in m) (part 3 (length_of (key_id_in m)) m) source
 
 -- the slot that was found; the first where there is none
-abbrev pub slot_in : List ℕ → Found → List ℕ
-slot_in t (At i) = slot_of t i
-slot_in t Nothing = slot_of t 0
+abbrev pub slot_in : List ℕ → Option ℕ → List ℕ
+slot_in t (Some i) = slot_of t i
+slot_in t None = slot_of t 0
 
 -- whether that is slot i
-abbrev pub is_at : ℕ → Found → Bool
-is_at i (At j) = eqb j i
-is_at i Nothing = false
+abbrev pub is_at : ℕ → Option ℕ → Bool
+is_at i (Some j) = eqb j i
+is_at i None = false
 
 -- whether the ICV is right, where the header is read
-abbrev pub right_in : Parsed → List ℕ → List ℕ → Bool
-right_in (Read h) s m = right h (key_data_of s) m
-right_in BadLength s m = false
-right_in BadVersion s m = false
-right_in BadSuite s m = false
-right_in TooShort s m = false
+abbrev pub right_in : Result Header HeaderError → List ℕ → List ℕ → Bool
+right_in (Ok h) s m = right h (key_data_of s) m
+right_in (Err why) s m = false
 
 unfoldable pub receive_replies : List ℕ → List ℕ → List ℕ → List ℕ → List Reply
 receive_replies t m source out =
@@ -120,7 +113,7 @@ receive_replies t m source out =
     -- Version not 0
     ∷ reply 3 (not (eqb (version_in m) 0))
     -- CS not 1 or 2, nor 241 or 242 (02, No. 5)
-    ∷ reply 4 (not (known (suite_of (cs_in m))))
+    ∷ reply 4 (not (is_some (suite_of (cs_in m))))
     -- message shorter than 9 + L + T
     ∷ reply 5 (of_suite (is_short m) (suite_of (cs_in m)))
     -- no slot matches
@@ -181,15 +174,15 @@ listing_replies t i out =
 -- ---- load
 
 -- whether a text is a listing, whether its entry stands with accepted 0, and whether it would be undamaged
-abbrev pub is_listing : Option Listing → Bool
+abbrev pub is_listing : Maybe Listing → Bool
 is_listing none = false
 is_listing (some l) = true
 
-abbrev pub stands_in : List ℕ → Option Listing → Bool
+abbrev pub stands_in : List ℕ → Maybe Listing → Bool
 stands_in t none = false
 stands_in t (some l) = let i = l.settled.named.slot in ltb i slot_count && stands l.settled (slot_of t i)
 
-abbrev pub loadable_in : List ℕ → Option Listing → Bool
+abbrev pub loadable_in : List ℕ → Maybe Listing → Bool
 loadable_in t none = false
 loadable_in t (some l) = loadable (slot_of t l.settled.named.slot) (listed_entry l)
 

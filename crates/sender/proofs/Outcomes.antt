@@ -10,11 +10,11 @@ use lib.ListN.{length}
 use Rattle.answers.specs.Answers.{output_room, output_small, bad_length, damaged, no_number}
 use Rattle.octets.specs.Octets.{put}
 use Rattle.format.specs.Suite.{suite_of}
-use Rattle.format.specs.declared.suite.Numbered.TheVariants.{Known, Unknown}
 use Rattle.format.specs.declared.suite.Suite.{Suite}
 use Rattle.sender.specs.Protect.{sound_record, with_number, message_of, refusal, refused_at, sent, payload_limit, numbered, outcome_of, Protects}
 use Rattle.sender.specs.declared.Protected.{Protected}
 use Rattle.sender.specs.declared.Sender.{Sender}
+use Rattle.std.specs.Prelude.{None, Some}
 
 module _ (s : Sender) (payload out : List ℕ) where
   -- what a return shows, from the outcome that its tests pick
@@ -42,10 +42,10 @@ module _ (s : Sender) (payload out : List ℕ) where
       unfolding outcome_of
       within = rw (le-ltb (length out) output_room room, sound, lt-ltb s.current (2 ^ 48) small)
 
-      pub unknown : Unknown ≡ suite_of s.keys.suite → outcome_of s payload out ≡ refusal damaged s out
+      pub unknown : None ≡ suite_of s.keys.suite → outcome_of s payload out ≡ refusal damaged s out
       unknown e = within ∙ rw (← e)
 
-      module _ (suite : Suite) (known : Known suite ≡ suite_of s.keys.suite) where
+      module _ (suite : Suite) (known : Some suite ≡ suite_of s.keys.suite) where
         pub too_long : payload_limit suite s.keys < length payload → outcome_of s payload out ≡ refusal bad_length s out
         too_long h = within ∙ rw (← known, lt-ltb (payload_limit suite s.keys) (length payload) h)
 

@@ -1,5 +1,5 @@
 -- Protect (01, "Replies"): 1, 7, 2, 12 in that order. A refusal changes neither the record nor the output. The record has an edition (02, No. 4).
-use Rattle.std.specs.Prelude.{◌≡◌, Bool, ◌&&◌, cond, List, ℕ, ◌+◌, ◌-◌, ◌^◌, eqb, leb, ltb, length, take}
+use Rattle.std.specs.Prelude.{◌≡◌, Bool, ◌&&◌, cond, List, ℕ, ◌+◌, ◌-◌, ◌^◌, eqb, leb, ltb, length, take, None, Option, Some}
 use Rattle.format.specs.Header.{greatest_message, fixed_bytes}
 use Rattle.octets.specs.Octets.{put}
 use Rattle.answers.specs.Answers.{refused, output_room, output_small, bad_length, damaged, no_number}
@@ -8,8 +8,6 @@ use Rattle.format.specs.Suite.{suite_of, icv_length_of}
 use Rattle.message.specs.Sealing.{sealed}
 use Rattle.answers.specs.declared.Answer.{Answer}
 use Rattle.format.specs.declared.key_data.Terms.{Terms}
-use Rattle.format.specs.declared.suite.Numbered.{Numbered}
-use Rattle.format.specs.declared.suite.Numbered.TheVariants.{Known, Unknown}
 use Rattle.format.specs.declared.suite.Suite.{Suite}
 use Rattle.sender.specs.declared.Keys.{Keys}
 use Rattle.sender.specs.declared.Sender.{Sender}
@@ -65,9 +63,9 @@ abbrev pub payload_limit : Suite → Keys → ℕ
 payload_limit suite d = greatest_message - (fixed_bytes + length (key_data_in d).key_id + icv_length_of suite)
 
 -- 2: payload over this limit; 12: current number is 2^48 − 1. "Protect adds 1 to the current number and uses the result."
-abbrev pub numbered : Numbered → Sender → List ℕ → List ℕ → Outcome
-numbered Unknown s payload out = refusal damaged s out
-numbered (Known suite) s payload out =
+abbrev pub numbered : Option Suite → Sender → List ℕ → List ℕ → Outcome
+numbered None s payload out = refusal damaged s out
+numbered (Some suite) s payload out =
     cond (ltb (payload_limit suite s.keys) (length payload)) (refusal bad_length s out)
     (cond (eqb s.current (2 ^ 48 - 1)) (refusal no_number s out) (sent suite s.keys (s.current + 1) payload out))
 

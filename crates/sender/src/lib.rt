@@ -4,15 +4,15 @@
 
 ghost use Rattle.std.specs.Prelude.{◌≡◌, true, ◌&&◌, ◌+◌, ◌^◌, ◌<◌, ◌≤◌, ltb, length};
 ghost use Rattle.format.specs.Header.{greatest_message, fixed_bytes};
-ghost use Rattle.answers.specs.Answers.{output_room};
+ghost use Rattle.answers.specs.Answers.{output_room, refusal_number};
 ghost use Rattle.octets.specs.Octets.{put};
 ghost use Rattle.magma.specs.Magma.{key_words};
 ghost use Rattle.format.specs.Suite.{icv_length_of};
 ghost use Rattle.sender.specs.Protect.{terms_in, key_data_in, sound_record, with_number, message_of, refused_at, Protects};
 
-use answers::Answer;
+use answers::{Answer, Refusal};
 use format::key_data::Terms;
-use format::suite::{Numbered, Suite};
+use format::suite::Suite;
 use format::{header, key_data};
 use message::sealing;
 
@@ -55,21 +55,20 @@ pub fn protect_by_value(sender: Sender, payload: &[u8], out: &mut [u8]) -> Prote
     let keyid_len = keys.keyid_len;
     let base = base_of(keys);
     if out.len() < answers::OUTPUT {
-        return refuse(answers::OUTPUT_SMALL, current);
+        return refuse(Refusal::OutputSmall, current);
     }
     if !is_undamaged(sender) {
-        return refuse(answers::DAMAGED, current);
+        return refuse(Refusal::Damaged, current);
     }
-    let numbered = Suite::numbered(keys.suite);
-    let Numbered::Known(suite) = numbered else {
-        return refuse(answers::DAMAGED, current);
+    let Some(suite) = Suite::numbered(keys.suite) else {
+        return refuse(Refusal::Damaged, current);
     };
     let longest = header::GREATEST - (header::FIXED + keyid_len + suite.icv_length());
     if longest < payload.len() {
-        return refuse(answers::BAD_LENGTH, current);
+        return refuse(Refusal::BadLength, current);
     }
     if current == window::LAST {
-        return refuse(answers::NO_NUMBER, current);
+        return refuse(Refusal::NoNumber, current);
     }
     let next = current + 1;
     let length = write_message(keys, &base, suite, next, payload, out);
@@ -85,12 +84,12 @@ pub fn protect_by_value(sender: Sender, payload: &[u8], out: &mut [u8]) -> Prote
 }
 
 // A refusal: the record keeps its number.
-fn refuse(reply: u64, current: u64) -> Protected
-    ensures { result ≡ refused_at reply current }
+fn refuse(refusal: Refusal, current: u64) -> Protected
+    ensures { result ≡ refused_at (refusal_number refusal) current }
 {
     Protected {
-        answer: answers::refuse(reply),
-        current: current,
+        answer: refusal.into(),
+        current,
     }
 }
 

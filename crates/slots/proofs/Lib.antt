@@ -1,5 +1,6 @@
 pub mod Damage
 pub mod Replacing
+pub mod Numbers
 pub mod Rewriting
 pub mod Settled
 pub mod Settling

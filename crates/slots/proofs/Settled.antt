@@ -159,8 +159,11 @@ module _ (s : List ℕ) (e : Entry) (long : length s ≡ slot_length) where
   abbrev all : List ℕ
   all = restored_in e s
 
+  pub length_restored : length all ≡ slot_length
+  length_restored = length_written s highest_at (history_bytes e ++ counter_bytes e.counters) long (lit≤ tt) (rw (length_all e) (lit≤ tt))
+
   -- one write behind the other
-  by_parts : put (put (put s highest_at (history_bytes e)) replays_at (bytes_of 8 e.counters.replays)) forged_at (bytes_of 8 e.counters.forged) ≡ all
+  pub by_parts : put (put (put s highest_at (history_bytes e)) replays_at (bytes_of 8 e.counters.replays)) forged_at (bytes_of 8 e.counters.forged) ≡ all
   by_parts =
       ap (λ (u : List ℕ). put u forged_at (bytes_of 8 e.counters.forged))
       (put_behind s highest_at replays_at (history_bytes e) (bytes_of 8 e.counters.replays) (rw long (lit≤ tt)) (rw (length_history e)))

@@ -9,8 +9,9 @@ use lib.Seq.{drop-drop}
 use Rattle.numbers.specs.Digits.{from_digits}
 use Rattle.octets.specs.Octets.{big_endian, bytes_of}
 use Rattle.octets.proofs.BigEndian.{number_cat, bytes_cat}
+use Rattle.window.specs.declared.Frame.{Frame}
 use Rattle.window.specs.Window.{view_of}
-use Rattle.slots.specs.Table.{frame_of, window_of, size_at, start_at, highest_at, marks_at}
+use Rattle.slots.specs.Table.{frame_of, window_of, highest_at, marks_at}
 
 pub marks_read : (at : ℕ) (l : List ℕ)
     → from_digits 64 (big_endian 8 (drop (at + 24) l) ∷ big_endian 8 (drop (at + 16) l) ∷ big_endian 8 (drop (at + 8) l) ∷ big_endian 8 (drop at l) ∷ [])
@@ -38,10 +39,9 @@ marks_bytes a b c d p q r =
       add-zero,
     )
 
--- the window of the numbers that were read in a slot
-pub window_is : (s : List ℕ) {size start highest a b c d : ℕ} → size ≡ big_endian 8 (drop size_at s) → start ≡ big_endian 8 (drop start_at s)
-    → highest ≡ big_endian 8 (drop highest_at s)
+-- the window of the frame and the numbers that were read in a slot
+pub window_is : (s : List ℕ) {f : Frame} {highest a b c d : ℕ} → f ≡ frame_of s → highest ≡ big_endian 8 (drop highest_at s)
     → a ≡ big_endian 8 (drop (marks_at + 24) s) → b ≡ big_endian 8 (drop (marks_at + 16) s) → c ≡ big_endian 8 (drop (marks_at + 8) s) → d ≡ big_endian 8 (drop marks_at s)
-    → view_of (record { frame = record { size = size; start = start }; highest = highest; marks = a ∷ b ∷ c ∷ d ∷ [] }) ≡ window_of s
-window_is s e f g p q r t =
-    rw (e, f, g, p, q, r, t) (ap (λ (m : ℕ). record { frame = frame_of s; highest = big_endian 8 (drop highest_at s); marks = m }) (marks_read marks_at s))
+    → view_of (record { frame = f; highest = highest; marks = a ∷ b ∷ c ∷ d ∷ [] }) ≡ window_of s
+window_is s e g p q r t =
+    rw (e, g, p, q, r, t) (ap (λ (m : ℕ). record { frame = frame_of s; highest = big_endian 8 (drop highest_at s); marks = m }) (marks_read marks_at s))

@@ -1,16 +1,15 @@
 -- Decimal numbers: how many digits, the text of a number below 10 and of a larger one, and their writing.
 -- Assumes nothing.
-use mathlib.Core.Path.{◌≡◌, refl, sym, ap, ◌∙◌}
-use mathlib.Core.List.{List, [], ◌∷◌, ◌++◌}
-use Prim.Native.Nat.{ℕ, zero, suc, ◌+◌, ◌/◌, ◌%◌, ◌^◌, ◌≤◌, ◌<◌}
+use mathlib.Core.Path.{◌≡◌, sym, ap, ◌∙◌}
+use mathlib.Core.List.{List, [], ◌∷◌, ◌++◌, append_assoc}
+use Prim.Native.Nat.{ℕ, zero, suc, ◌+◌, ◌-◌, ◌/◌, ◌%◌, ◌^◌, ◌≤◌, ◌<◌}
 use native.Mathlib.Decide.{dec_lt}
 use native.Mathlib.Nat.{pow-suc}
 use native.Mathlib.Omega.{arith}
 use borrow.Author.Tests.{lt-ltb, le-ltb}
-use lib.ListN.{length, set, length-append}
+use lib.ListN.{length, set, take, drop, length-append, length-drop, length-set}
+use Rattle.std.proofs.lemmas.List.{drop-set, take_all}
 use Rattle.text.specs.Text.{decimal_in, decimal_of}
-use Rattle.octets.proofs.Places.{Written}
-use Rattle.text.proofs.Lines.{byte_written, byte_further}
 
 pub small : (n x : ℕ) → x < 10 → decimal_in (suc n) x ≡ (48 + x) ∷ []
 unfolding decimal_in
@@ -59,19 +58,41 @@ module _ (x : ℕ) (word : x < 2 ^ 64) (long : 10 ≤ x) where
   same : decimal_in 19 (x / 10) ≡ decimal_of (x / 10)
   same = wider 18 (x / 10) (omega arith)
 
-  -- the digits but the last
-  pub length_front : length (decimal_of (x / 10)) ≤ 19
-  length_front = rw (← same) (most 19 (x / 10))
-
   pub next_digit : decimal_of x ≡ decimal_of (x / 10) ++ ((48 + x % 10) ∷ [])
   next_digit = large 19 x long ∙ ap (λ (t : List ℕ). t ++ ((48 + x % 10) ∷ [])) same
 
-  -- the last digit is written behind the others
-  pub last_written : (l out : List ℕ) (at end : ℕ) → at + 20 ≤ length l → Written l at (decimal_of (x / 10)) out end
-      → Written l at (decimal_of x) (set out end (48 + x % 10)) (end + 1)
-  last_written l out at end h w =
-      rw next_digit (byte_further w (48 + x % 10) (omega (arith, length_front, w.ends)))
+-- what is left of a number has its digits before those that were made, which end at the twentieth place
+module _ (number left start : ℕ) (digits : List ℕ) (long : length digits ≡ 20) (fits : start ≤ 20)
+    (made : decimal_of number ≡ decimal_of left ++ drop start digits) where
+  -- they leave it room
+  room : length (decimal_of left) ≤ start
+  room = omega (arith, ap length made, length-append (decimal_of left) (drop start digits), length-drop start digits, length_decimal number)
 
--- a number of one digit is written
-pub only_written : (x : ℕ) → x < 10 → (l : List ℕ) (at : ℕ) → at < length l → Written l at (decimal_of x) (set l at (48 + x)) (at + 1)
-only_written x h l at k = rw (small 19 x h) (record { ends = refl; is = byte_written l at (48 + x) k })
+  module _ (word : left < 2 ^ 64) (some : 10 ≤ left) where
+    pub more_room : 1 ≤ start
+    more_room = omega (arith, room, ap length (next_digit left word some), length-append (decimal_of (left / 10)) ((48 + left % 10) ∷ []))
+
+    -- the last digit of it is made
+    pub one_made : decimal_of number ≡ decimal_of (left / 10) ++ drop (start - 1) (set digits (start - 1) (48 + left % 10))
+    one_made =
+        let here : drop (start - 1) (set digits (start - 1) (48 + left % 10)) ≡ (48 + left % 10) ∷ drop start digits =
+        drop-set digits (start - 1) (48 + left % 10) (omega (arith, more_room)) ∙ ap (λ (n : ℕ). (48 + left % 10) ∷ drop n digits) (omega (arith, more_room)) in
+        made ∙ rw (next_digit left word some, here) (append_assoc (decimal_of (left / 10)) ((48 + left % 10) ∷ []) (drop start digits))
+
+  module _ (last : left < 10) where
+    pub last_room : 1 ≤ start
+    last_room = omega (arith, room, ap length (small 19 left last))
+
+    -- all are made
+    pub all_made : decimal_of number ≡ drop (start - 1) (set digits (start - 1) (48 + left))
+    all_made =
+        let here : drop (start - 1) (set digits (start - 1) (48 + left)) ≡ (48 + left) ∷ drop start digits =
+        drop-set digits (start - 1) (48 + left) (omega (arith, last_room)) ∙ ap (λ (n : ℕ). (48 + left) ∷ drop n digits) (omega (arith, last_room)) in
+        made ∙ rw (small 19 left last, here)
+
+    -- and they are as many as stand there
+    pub all_count : length (decimal_of number) ≡ 20 - (start - 1)
+    all_count = omega (arith, ap length all_made, length-drop (start - 1) (set digits (start - 1) (48 + left)), length-set digits (start - 1) (48 + left))
+
+    pub all_taken : take (20 - (start - 1)) (drop (start - 1) (set digits (start - 1) (48 + left))) ≡ decimal_of number
+    all_taken = rw (← all_made) (take_all (20 - (start - 1)) (decimal_of number) (omega (arith, all_count)))

@@ -9,6 +9,9 @@ pub mod reading; // reading.rt: lines, read from a place
 
 pub(crate) const LINE_FEED: u8 = 10;
 
+// Digits of the longest number of 64 bits in decimal.
+const DIGITS: usize = 20;
+
 // A name, a number in decimal and a line feed are written at `at`. Answers where they end.
 pub fn write_decimal_line(name: &[u8], number: u64, out: &mut [u8], at: usize) -> usize
     requires { (length name.now ≤ 16) × (at + 64 ≤ length out.old) }
@@ -49,13 +52,18 @@ fn write_decimal(number: u64, out: &mut [u8], at: usize) -> usize
     ensures value { (result ≡ at + length (decimal_of number)) × (result ≤ at + 20) }
     ensures out_after { out.new ≡ put out.old at (decimal_of number) }
 {
-    if number < 10 {
-        out[at] = 48 + (number as u8);
-        return at + 1;
+    let mut digits = [0u8; DIGITS];
+    let mut start = DIGITS;
+    let mut left = number;
+    while 10 <= left {
+        start -= 1;
+        digits[start] = b'0' + ((left % 10) as u8);
+        left /= 10;
     }
-    let end = write_decimal(number / 10, out, at);
-    out[end] = 48 + ((number % 10) as u8);
-    end + 1
+    start -= 1;
+    digits[start] = b'0' + (left as u8);
+    octets::copy(&digits[start..], out, at);
+    at + (DIGITS - start)
 }
 
 // Bytes in hex, two digits each, are written at `at`.

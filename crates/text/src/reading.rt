@@ -19,74 +19,55 @@ pub struct Hex {
     pub count: usize,
 }
 
-// A number, and the place behind its line.
-#[derive(Drop)]
-pub enum Number {
-    Is(u64, usize),
-    Bad,
-}
-
-// Bytes in hex, and the place behind their line.
-#[derive(Drop)]
-pub enum Span {
-    Is(Hex, usize),
-    Bad,
-}
-
 // A name, a number in decimal and a line feed.
-pub fn decimal_line(name: &[u8], text: &[u8], at: usize) -> Number
+pub fn decimal_line(name: &[u8], text: &[u8], at: usize) -> Option<(u64, usize)>
     requires { (at ≤ length text.now) × (length name.now ≤ 16) }
     ensures { FindsNumber text.now (read_decimal_line name.now (drop at text.now)) result }
 {
     if !named(name, text, at) {
-        return Number::Bad;
+        return None;
     }
     let first = at + name.len();
     if text.len() <= first {
-        return Number::Bad;
+        return None;
     }
     let c = text[first];
     if !is_digit(c) {
-        return Number::Bad;
+        return None;
     }
     digits(text, first + 1, (c - b'0') as u64)
 }
 
 // A name, bytes in hex and a line feed.
-pub fn hex_line(name: &[u8], text: &[u8], at: usize) -> Span
+pub fn hex_line(name: &[u8], text: &[u8], at: usize) -> Option<(Hex, usize)>
     requires { (at ≤ length text.now) × (length name.now ≤ 16) }
     ensures { FindsSpan text.now (read_hex_line name.now (drop at text.now)) result }
 {
     if !named(name, text, at) {
-        return Span::Bad;
+        return None;
     }
     pairs(text, at + name.len())
 }
 
 // A name, n bytes in hex and a line feed.
-pub fn bytes_line(name: &[u8], n: usize, text: &[u8], at: usize) -> Span
+pub fn bytes_line(name: &[u8], n: usize, text: &[u8], at: usize) -> Option<(Hex, usize)>
     requires { (at ≤ length text.now) × (length name.now ≤ 16) }
     ensures { FindsSpan text.now (read_bytes_line name.now n (drop at text.now)) result }
 {
-    let Span::Is(hex, next) = hex_line(name, text, at) else {
-        return Span::Bad;
-    };
+    let (hex, next) = hex_line(name, text, at)?;
     if hex.count != n {
-        return Span::Bad;
+        return None;
     }
-    Span::Is(hex, next)
+    Some((hex, next))
 }
 
 // A name, a number of n bytes in hex and a line feed.
-pub fn number_line(name: &[u8], n: usize, text: &[u8], at: usize) -> Number
+pub fn number_line(name: &[u8], n: usize, text: &[u8], at: usize) -> Option<(u64, usize)>
     requires { (at ≤ length text.now) × (length name.now ≤ 16) × (n ≤ 8) }
     ensures { FindsNumber text.now (read_number_line name.now n (drop at text.now)) result }
 {
-    let Span::Is(hex, next) = bytes_line(name, n, text, at) else {
-        return Number::Bad;
-    };
-    let from = hex.at;
-    Number::Is(hex_number(text, from, n), next)
+    let (hex, next) = bytes_line(name, n, text, at)?;
+    Some((hex_number(text, hex.at, n), next))
 }
 
 // The number that n bytes in hex at `at` write.
@@ -158,7 +139,7 @@ fn named(name: &[u8], text: &[u8], at: usize) -> bool
 }
 
 // The digits behind those that write a number, up to the line feed.
-fn digits(text: &[u8], at: usize, first: u64) -> Number
+fn digits(text: &[u8], at: usize, first: u64) -> Option<(u64, usize)>
     requires { at ≤ length text.now }
     ensures { FindsNumber text.now (read_digits first (drop at text.now)) result }
 {
@@ -168,14 +149,14 @@ fn digits(text: &[u8], at: usize, first: u64) -> Number
         let c = text[i];
         i += 1;
         if c == LINE_FEED {
-            return Number::Is(number, i);
+            return Some((number, i));
         }
         if !may_follow(number, c) {
-            return Number::Bad;
+            return None;
         }
         number = number * 10 + ((c - b'0') as u64);
     }
-    Number::Bad
+    None
 }
 
 // Whether a digit may follow those that write a number.
@@ -208,7 +189,7 @@ fn is_digit(c: u8) -> bool
 }
 
 // Digits in hex, two a byte, up to the line feed.
-fn pairs(text: &[u8], at: usize) -> Span
+fn pairs(text: &[u8], at: usize) -> Option<(Hex, usize)>
     requires { at ≤ length text.now }
     ensures { FindsSpan text.now (read_hex (drop at text.now)) result }
 {
@@ -216,27 +197,21 @@ fn pairs(text: &[u8], at: usize) -> Span
     let mut i = at;
     while i < text.len() {
         if text[i] == LINE_FEED {
-            return Span::Is(
-                Hex {
-                    at: at,
-                    count: count,
-                },
-                i + 1,
-            );
+            return Some((Hex { at, count }, i + 1));
         }
         if text.len() - i < 2 {
-            return Span::Bad;
+            return None;
         }
         if !is_hex(text[i]) {
-            return Span::Bad;
+            return None;
         }
         if !is_hex(text[i + 1]) {
-            return Span::Bad;
+            return None;
         }
         count += 1;
         i += 2;
     }
-    Span::Bad
+    None
 }
 
 // Whether a byte is a digit in lower-case hex.

@@ -9,7 +9,7 @@ pub(crate) fn of_word(command: usize, operands: &[u8]) -> u64 {
     match command {
         0 => magma::substitute(&rows, word) as u64,
         1 => magma::turn(&rows, word, block.low) as u64,
-        _ => low(magma::round(&rows, word, block)),
+        _ => low(block.round(&rows, word)),
     }
 }
 

@@ -1,15 +1,16 @@
 // Counter mode and check value with Magma, with a key.
+use modes::CheckKey;
 use std::io;
 use std::io::Write;
 
 // 7 and 8: the two subkeys. 9: the check value of a text; 10: its leading 32 bits.
 pub(crate) fn value(command: usize, operands: &[u8]) -> u64 {
     let key = message_calls::key(operands);
-    let subkeys = modes::subkeys_of(&key);
-    let check = modes::check_value(&key, script::operand(operands, 1));
+    let keyed = CheckKey::of(&key);
+    let check = keyed.check_value(script::operand(operands, 1));
     match command {
-        7 => subkeys.first,
-        8 => subkeys.second,
+        7 => keyed.first_subkey(),
+        8 => keyed.second_subkey(),
         9 => check,
         _ => check / 4294967296,
     }

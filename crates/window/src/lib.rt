@@ -1,4 +1,4 @@
-// The window of accepted numbers, by value. `specs/Window.antt` says what it is; the crate `words` does its arithmetic.
+// The window of accepted numbers, by value. `specs/Window.antt` says what it is; the crate `words` has its marks.
 #![tactic(auto)]
 
 ghost use Rattle.std.specs.Prelude.{◌≡◌, true, ◌+◌, ◌-◌, ◌≤◌, min, max};
@@ -6,6 +6,8 @@ ghost use Rattle.window.specs.declared.Verdict.TheVariants.{Admissible};
 ghost use Rattle.window.specs.Window.{view_of, floor_of, verdict_of, accept_of, count_of, sound_frame, undamaged_window};
 ghost use Rattle.window.specs.Counters.{one_more};
 ghost use Rattle.window.specs.Entry.{undamaged_entry};
+
+use words::Marks;
 
 // The greatest number that a message can have: 2^48 - 1.
 pub const LAST: u64 = 281474976710655;
@@ -42,7 +44,7 @@ pub struct Window {
 }
 
 // What the window says of a number.
-#[derive(Drop)]
+#[derive(Clone, Copy, Debug, PartialEq, Eq)]
 pub enum Verdict {
     Below,
     Marked,
@@ -55,30 +57,29 @@ impl Window {
     pub(crate) fn floor(self) -> u64
         ensures { result ≡ floor_of (view_of self) }
     {
-        let size = self.frame.size;
-        let start = self.frame.start;
-        let highest = self.highest;
-        if size == 0 {
-            return larger(start, highest);
-        }
-        if highest < size - 1 {
-            return start;
-        }
-        larger(start, highest - (size - 1))
+        let Frame { size, start } = self.frame;
+        let oldest = self.highest.saturating_sub(size.saturating_sub(1));
+        start.max(oldest)
+    }
+
+    // The marks as a number.
+    fn marks(self) -> Marks
+        ensures { result ≡ (view_of self).marks }
+    {
+        Marks::from_words(self.marks)
     }
 
     // Whether n may be accepted, and why not.
     pub fn admissible(self, n: u64) -> Verdict
         ensures { result ≡ verdict_of (view_of self) n }
     {
-        let marks = self.marks;
         if n < self.floor() {
             return Verdict::Below;
         }
         if self.highest < n {
             return Verdict::Admissible;
         }
-        if words::has_bit(marks, self.highest - n) {
+        if self.marks().has_bit(self.highest - n) {
             return Verdict::Marked;
         }
         Verdict::Admissible
@@ -89,21 +90,25 @@ impl Window {
         requires { (undamaged_window (view_of self) ≡ true) × (verdict_of (view_of self) n ≡ Admissible) }
         ensures { view_of result ≡ accept_of (view_of self) n }
     {
-        let frame = self.frame;
-        let marks = self.marks;
-        let top = larger(self.highest, n);
-        let rise = smaller(top - self.highest, frame.size);
+        let Window {
+            frame,
+            highest,
+            marks,
+        } = self;
+        let top = highest.max(n);
+        let rise = (top - highest).min(frame.size);
         let raised = Window {
             frame,
             highest: top,
             marks,
         };
-        let moved = words::cut(words::shifted(marks, rise), raised.reach());
-        let marked = words::with_bit(moved, top - n);
+        let moved = self.marks().shifted(rise).cut(raised.reach());
+        let marked = moved.with_bit(top - n);
+        let words = marked.words();
         Window {
             frame,
             highest: top,
-            marks: marked,
+            marks: words,
         }
     }
 
@@ -111,28 +116,26 @@ impl Window {
     pub(crate) fn undamaged(self) -> bool
         ensures { result ≡ undamaged_window (view_of self) }
     {
-        let marks = self.marks;
         if !sound_frame(self.frame) {
             return false;
         }
         if LAST < self.highest {
             return false;
         }
-        if !words::within(marks, self.reach()) {
+        if !self.marks().within(self.reach()) {
             return false;
         }
         if self.highest == 0 {
             return true;
         }
-        words::has_bit(marks, 0)
+        self.marks().has_bit(0)
     }
 
     // How many numbers are marked.
     pub(crate) fn count(self) -> u64
         ensures { (result ≡ count_of (view_of self)) × (result ≤ 256) }
     {
-        let marks = self.marks;
-        words::count(marks)
+        self.marks().count()
     }
 
     // How many numbers stand from the floor to the highest: none where a start lies above it.
@@ -152,16 +155,7 @@ impl Window {
 pub fn sound_frame(frame: Frame) -> bool
     ensures { result ≡ sound_frame frame }
 {
-    if frame.size == 0 {
-        return false;
-    }
-    if LARGEST_SIZE < frame.size {
-        return false;
-    }
-    if LAST < frame.start {
-        return false;
-    }
-    true
+    1 <= frame.size && frame.size <= LARGEST_SIZE && frame.start <= LAST
 }
 
 // Whether the damage rule finds nothing in a window and the totals and counters beside it.
@@ -195,23 +189,5 @@ pub fn undamaged_entry(window: Window, accepted: u64, bytes: u64, counters: Coun
 pub fn one_more(counter: u64) -> u64
     ensures { result ≡ one_more counter }
 {
-    if counter < COUNTER_LIMIT {
-        counter + 1
-    } else {
-        COUNTER_LIMIT
-    }
-}
-
-// The larger of two numbers.
-fn larger(a: u64, b: u64) -> u64
-    ensures { result ≡ max a b }
-{
-    if a < b { b } else { a }
-}
-
-// The smaller of two numbers.
-fn smaller(a: u64, b: u64) -> u64
-    ensures { result ≡ min a b }
-{
-    if a < b { a } else { b }
+    COUNTER_LIMIT.min(counter.saturating_add(1))
 }

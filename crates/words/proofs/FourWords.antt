@@ -1,17 +1,20 @@
 -- Four words of 64 bits: what the functions on them compute, in terms of the number that the words write.
 -- Assumes nothing.
 use mathlib.Core.Path.{◌≡◌, refl, sym, ap, subst, ◌∙◌}
-use mathlib.Core.Bool.{false}
+use mathlib.Core.Bool.{Bool, true, false}
+use native.Mathlib.Decide.{dec_lt}
 use mathlib.Core.List.{List, [], ◌∷◌}
 use Prim.Native.Nat.{ℕ, zero, suc, min, ◌+◌, ◌-◌, ◌*◌, ◌/◌, ◌%◌, ◌^◌, ◌≤◌, ◌<◌}
 use native.Mathlib.Nat.{add-zero, zero-add, zero-mul, mul-one, one-mul, sub-zero, zero-div, div-eq_of_lt, mod-lt, mod-eq_of_lt, mul-mod_left}
-use native.Mathlib.Numerals.{add-one}
 use native.Mathlib.Omega.{arith}
 use lib.Count.{ones, ones_in}
-use lib.Dec.{lit<}
-use lib.ListN.{length, get_or, take, drop, drop_of_length-le}
+use lib.Dec.{lit<, eqb, ltb}
+use borrow.Author.Tests.{lt-ltb, le-ltb}
+use Rattle.std.specs.Cmp.Lexicographic.{pointwise}
+use Rattle.std.proofs.lemmas.Slice.Eq.{bytes_eq-Decides}
+use Rattle.words.specs.FourWords.{IsFourWords, words_of, words_back}
+use lib.ListN.{length, get_or, drop, set, drop_of_length-le}
 use lib.Pow.{pow_pos, pow-lt, shl-shr}
-use lib.Seq.{take_all, take-suc}
 use mir.Syntax.{w64}
 use mir.Val.{Fits}
 use Rattle.numbers.specs.Digits.{bit, from_digits}
@@ -75,15 +78,23 @@ pub cut_four : (s : ℕ) (m : List ℕ) {p q r t : ℕ} → length m ≡ 4 → D
 cut_four s m n d e f g h =
     rw (e, f, g, h) (ap (λ (l : List ℕ). from_digits 64 (cut 64 s 0 l)) (four_is m n) ∙ (rw sub-zero at (cut_is 64 s 0 m d)))
 
--- a number that stays the same is no wider
-pub cut_keeps : (m r : List ℕ) → length m ≡ 4 → length r ≡ 4 → (s i : ℕ) → 4 ≤ i → from_digits 64 r ≡ from_digits 64 m % 2 ^ s
-    → take i r ≡ take i m → from_digits 64 m < 2 ^ s
-cut_keeps m r n k s i h e t =
-    let same : r ≡ m = sym (take_all i r (omega arith)) ∙ t ∙ take_all i m (omega arith) in
-    subst (λ (x : ℕ). x < 2 ^ s) (sym e ∙ ap (from_digits 64) same) (mod-lt (from_digits 64 m) (pow_pos s))
+false_of : (r : Bool) → (r ≡ true → ⊥) → r ≡ false
+false_of true h = absurd (h refl)
+false_of false h = refl
 
-pub same_more : (m r : List ℕ) (i : ℕ) → i < length m → i < length r → take i r ≡ take i m → get_or r i 0 ≡ get_or m i 0 → take (i + 1) r ≡ take (i + 1) m
-same_more m r i h k t e = rw (add-one, take-suc r i 0 k, take-suc m i 0 h, t, e)
+-- cutting changes none of the words exactly where the number is that narrow
+pub kept_narrow : (m k : List ℕ) (s : ℕ) → IsFourWords m → IsFourWords k → from_digits 64 k ≡ from_digits 64 m % 2 ^ s
+    → pointwise eqb k m ≡ ltb (from_digits 64 m) (2 ^ s)
+kept_narrow m k s hm hk e = go (dec_lt (from_digits 64 m) (2 ^ s))
+  where
+    go : Dec (from_digits 64 m < 2 ^ s) → pointwise eqb k m ≡ ltb (from_digits 64 m) (2 ^ s)
+    go (yes h) =
+        let same : k ≡ m = sym (words_back k hk) ∙ ap words_of (e ∙ mod-eq_of_lt h) ∙ words_back m hm in
+        (bytes_eq-Decides k m).1 same ∙ sym (lt-ltb (from_digits 64 m) (2 ^ s) h)
+    go (no h) =
+        false_of (pointwise eqb k m) (λ t.
+        h (subst (λ (x : ℕ). x < 2 ^ s) (sym e ∙ ap (from_digits 64) ((bytes_eq-Decides k m).0 t)) (mod-lt (from_digits 64 m) (pow_pos s))))
+        ∙ sym (le-ltb (from_digits 64 m) (2 ^ s) (omega arith))
 
 -- ---- one bit
 
@@ -93,6 +104,13 @@ bit_over m n d i h = sym (bit_above (from_digits 64 m) 256 i (words_lt m n d) h)
 pub put_fits : (m : List ℕ) → Digits 64 m → (i : ℕ) → bit (from_digits 64 m) i ≡ false → get_or m (i / 64) 0 + 2 ^ (i % 64) < 2 ^ 64
 put_fits m d i e =
     put_lt (get_or m (i / 64) 0) (i % 64) 64 (sym (bit_at 64 m d i (lit< tt)) ∙ e) (d (i / 64)) (omega arith)
+
+pub set_fits : (m : List ℕ) → Digits 64 m → (k v : ℕ) → v < 2 ^ 64 → Digits 64 (set m k v)
+set_fits [] d k v h i = lit< tt
+set_fits (x ∷ xs) d zero v h zero = h
+set_fits (x ∷ xs) d zero v h (suc i) = d (suc i)
+set_fits (x ∷ xs) d (suc k) v h zero = d 0
+set_fits (x ∷ xs) d (suc k) v h (suc i) = set_fits xs (λ j. d (suc j)) k v h i
 
 -- ---- counted
 

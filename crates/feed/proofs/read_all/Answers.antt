@@ -27,9 +27,10 @@ loop-at-smaller c =
 pub loop-at-preserved : goal.loop-at-preserved
 loop-at-preserved c =
     let a = c.args in
-    takes a.order a.file.now a.table.now a.out.now c.requires.0 c.requires.2 c.requires.3
+    rw c.number.ensures
+    (takes a.order a.file.now a.table.now a.out.now c.requires.0 c.requires.2 c.requires.3
     c.loop-at.invariant (omega arith) c.record_at-found.ensures
-    c.take-end.ensures
+    c.take-end.ensures)
 
 pub shape_of-out : goal.shape_of-out
 shape_of-out c = c.loop-at.invariant.same

@@ -1,10 +1,7 @@
 -- `magma::substitute` meets its contract. The loop's invariant: the rows passed have substituted their nibbles. Assumes nothing.
-use Rattle.std.proofs.Common.{◌≡◌, ◌-◌, ◌≤◌}
+use Rattle.std.proofs.Common.{◌≡◌}
 use Rattle.magma.specs.Magma.{substituted}
 use Rattle.magma.proofs.substitute.Given as goal
 
 abbrev pub invariant-loop-row : goal.invariant-loop-row
-invariant-loop-row l = (l.row ≤ 8) × (l.done ≡ substituted l.row l.x)
-
-abbrev pub decreases-loop-row : goal.decreases-loop-row
-decreases-loop-row l = 8 - l.row
+invariant-loop-row l = l.done ≡ substituted l.row l.x

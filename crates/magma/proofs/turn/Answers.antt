@@ -4,4 +4,4 @@ use Rattle.magma.proofs.turn.Goals as goal
 
 pub returns : goal.returns
 unfolding turned
-returns c = rw (c.substitute-mixed.ensures, c.wrapping_add_u32.ensures.value)
+returns c = rw c.substitute-mixed.ensures

@@ -1,10 +1,10 @@
 -- `octets::read` meets its contract. The loop's invariant: the number of the bytes passed, with its width. Assumes nothing.
-use Rattle.std.proofs.Common.{◌≡◌, ◌-◌, ◌*◌, ◌^◌, ◌≤◌, ◌<◌, drop}
+use Rattle.std.proofs.Common.{◌≡◌, ◌*◌, ◌^◌, ◌<◌, drop}
 use Rattle.octets.specs.Octets.{big_endian}
 use Rattle.octets.proofs.read.Given as goal
 
-abbrev pub invariant-loop-i : goal.invariant-loop-i
-invariant-loop-i l = (l.i ≤ l.n) × (l.number < 2 ^ (8 * l.i)) × (l.number ≡ big_endian l.i (drop l.at l.bytes))
-
-abbrev pub decreases-loop-i : goal.decreases-loop-i
-decreases-loop-i l = l.n - l.i
+abbrev pub invariant-loop-byte : goal.invariant-loop-byte
+invariant-loop-byte l = record {
+  width : l.number < 2 ^ (8 * l.byte-index);
+  value : l.number ≡ big_endian l.byte-index (drop l.at l.bytes);
+}

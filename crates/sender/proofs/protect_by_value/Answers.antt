@@ -42,7 +42,7 @@ returns-then-not-is_undamaged c =
 pub returns-in_default : goal.returns-in_default
 returns-in_default c =
     let u = undamaged c.args.sender c.is_undamaged.ensures c.if-not-is_undamaged.false in
-    refuses _ _ _ (unknown _ _ _ c.if-out-lt-OUTPUT.false u.0 u.1 (sym c.in_default.is ∙ c.numbered-numbered.ensures))
+    refuses _ _ _ (unknown _ _ _ c.if-out-lt-OUTPUT.false u.0 u.1 (sym c.in_default.is ∙ c.numbered.ensures))
     c.refuse-in_default.ensures
 
 pub overflow_add-longest : goal.overflow_add-longest
@@ -53,27 +53,27 @@ overflow_add-longest c =
 pub overflow_add-longest-2 : goal.overflow_add-longest-2
 overflow_add-longest-2 c =
     let u = undamaged c.args.sender c.is_undamaged.ensures c.if-not-is_undamaged.false in
-    omega (arith, short c.args.sender.keys (search rules) u.0 c.in-Known.suite c.icv_length.ensures)
+    omega (arith, short c.args.sender.keys (search rules) u.0 c.in-Some.suite c.icv_length.ensures)
 
 pub overflow_sub-longest : goal.overflow_sub-longest
 overflow_sub-longest c =
     let u = undamaged c.args.sender c.is_undamaged.ensures c.if-not-is_undamaged.false in
-    short c.args.sender.keys (search rules) u.0 c.in-Known.suite c.icv_length.ensures
+    short c.args.sender.keys (search rules) u.0 c.in-Some.suite c.icv_length.ensures
 
 pub returns-then-longest-payload : goal.returns-then-longest-payload
 returns-then-longest-payload c =
     let u = undamaged c.args.sender c.is_undamaged.ensures c.if-not-is_undamaged.false in
     refuses _ _ _
-    (too_long _ _ _ c.if-out-lt-OUTPUT.false u.0 u.1 c.in-Known.suite (sym c.in-Known.is ∙ c.numbered-numbered.ensures)
-    (omega (arith, longest c.args.sender.keys (search rules) u.0 c.in-Known.suite c.icv_length.ensures, c.if-longest-payload.true)))
+    (too_long _ _ _ c.if-out-lt-OUTPUT.false u.0 u.1 c.in-Some.suite (sym c.in-Some.is ∙ c.numbered.ensures)
+    (omega (arith, longest c.args.sender.keys (search rules) u.0 c.in-Some.suite c.icv_length.ensures, c.if-longest-payload.true)))
     c.refuse-then-longest-payload.ensures
 
 pub returns-then-current-eq-LAST : goal.returns-then-current-eq-LAST
 returns-then-current-eq-LAST c =
     let u = undamaged c.args.sender c.is_undamaged.ensures c.if-not-is_undamaged.false in
     refuses _ _ _
-    (ended _ _ _ c.if-out-lt-OUTPUT.false u.0 u.1 c.in-Known.suite (sym c.in-Known.is ∙ c.numbered-numbered.ensures)
-    (omega (arith, longest c.args.sender.keys (search rules) u.0 c.in-Known.suite c.icv_length.ensures, c.if-longest-payload.false)) c.if-current-eq-LAST.true)
+    (ended _ _ _ c.if-out-lt-OUTPUT.false u.0 u.1 c.in-Some.suite (sym c.in-Some.is ∙ c.numbered.ensures)
+    (omega (arith, longest c.args.sender.keys (search rules) u.0 c.in-Some.suite c.icv_length.ensures, c.if-longest-payload.false)) c.if-current-eq-LAST.true)
     c.refuse-then-current-eq-LAST.ensures
 
 pub overflow_add-next : goal.overflow_add-next
@@ -90,9 +90,9 @@ write_message-length-requires c =
       omega (arith, u.1),
       omega (
         arith,
-        longest d (search rules) u.0 c.in-Known.suite c.icv_length.ensures,
+        longest d (search rules) u.0 c.in-Some.suite c.icv_length.ensures,
         c.if-longest-payload.false,
-        short d (search rules) u.0 c.in-Known.suite c.icv_length.ensures,
+        short d (search rules) u.0 c.in-Some.suite c.icv_length.ensures,
         keyid_length d (search rules) u.0,
         c.icv_length.ensures,
       ),
@@ -102,7 +102,7 @@ write_message-length-requires c =
 pub returns : goal.returns
 returns c =
     let u = undamaged c.args.sender c.is_undamaged.ensures c.if-not-is_undamaged.false in
-    sends _ _ _ c.in-Known.suite _ c.write_message-length.result
-    (goes _ _ _ c.if-out-lt-OUTPUT.false u.0 u.1 c.in-Known.suite (sym c.in-Known.is ∙ c.numbered-numbered.ensures)
-    (omega (arith, longest c.args.sender.keys (search rules) u.0 c.in-Known.suite c.icv_length.ensures, c.if-longest-payload.false)) c.if-current-eq-LAST.false)
+    sends _ _ _ c.in-Some.suite _ c.write_message-length.result
+    (goes _ _ _ c.if-out-lt-OUTPUT.false u.0 u.1 c.in-Some.suite (sym c.in-Some.is ∙ c.numbered.ensures)
+    (omega (arith, longest c.args.sender.keys (search rules) u.0 c.in-Some.suite c.icv_length.ensures, c.if-longest-payload.false)) c.if-current-eq-LAST.false)
     c.write_message-length.ensures.value c.write_message-length.ensures.out_after

@@ -2,4 +2,4 @@
 use Rattle.sender.proofs.refuse.Goals as goal
 
 pub returns : goal.returns
-returns c = rw c.refuse.ensures
+returns c = rw c.into.ensures

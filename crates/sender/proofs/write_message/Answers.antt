@@ -43,4 +43,4 @@ returns c =
     let a = c.args in
     let words = c.requires.0 in
     let same = of_terms a.keys c.terms_of-terms.ensures a.suite a.number a.payload.now in
-    record { value = c.seal_under.ensures.value _ words ∙ ap length same; out_after = c.seal_under.ensures.out_after _ words ∙ ap (put a.out.now 0) same }
+    record { value = c.seal_under.ensures.answers _ words ∙ ap length same; out_after = c.seal_under.ensures.writes _ words ∙ ap (put a.out.now 0) same }

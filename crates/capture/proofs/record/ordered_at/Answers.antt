@@ -6,12 +6,12 @@ use Rattle.capture.proofs.record.ordered_at.Goals as goal
 pub returns-then-file-at : goal.returns-then-file-at
 returns-then-file-at c =
     let a = c.args in
-    c.without.ensures ∙ nothing_at_end a.order a.file.now a.at (omega arith)
+    nothing_at_end a.order a.file.now a.at (omega arith)
 
 pub returns-then-file-at-lt-HEADER : goal.returns-then-file-at-lt-HEADER
 returns-then-file-at-lt-HEADER c =
     let a = c.args in
-    c.without-then-file-at-lt-HEADER.ensures ∙ cut_header a.order a.file.now a.at (omega arith) (omega arith)
+    c.without.ensures ∙ cut_header a.order a.file.now a.at (omega arith) (omega arith)
 
 pub returns-then-file-data : goal.returns-then-file-data
 returns-then-file-data c =

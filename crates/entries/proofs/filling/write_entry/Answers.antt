@@ -1,25 +1,25 @@
--- `entries::filling::write_entry` meets its contract: each stretch is written behind the last. Assumes nothing.
-use Rattle.std.proofs.Common.{◌+◌, ◌*◌, ◌≤◌, add_assoc, arith, length}
-use Rattle.octets.proofs.Places.{Written, and_then}
-use Rattle.slots.specs.Table.{slot_length, key_id_length_at, source_length_at, key_at, size_at, highest_at, key_id_room, source_room}
-use Rattle.entries.specs.Fresh.{prefixed, head_of, frame_bytes, fresh_slot}
-use Rattle.entries.proofs.Fresh.{length_head, length_frame}
-use Rattle.entries.proofs.Stretches.{and_zeros, length_prefixed}
+-- Each stretch is written behind the last, and they are the slot. Assumes nothing.
+use Rattle.std.proofs.Common.{◌∙◌, List, ℕ, ap, arith}
+use Rattle.format.specs.KeyData.{keyed}
+use Rattle.octets.specs.Octets.{put}
+use Rattle.octets.proofs.Places.{length_put}
+use Rattle.slots.specs.Table.{slot_of, replaced}
+use Rattle.slots.proofs.Settling.{written_back}
+use Rattle.slots.proofs.Slots.{length_of_slot, lent_length}
+use Rattle.entries.specs.Fresh.{fresh_slot}
+use Rattle.entries.proofs.Stretches.{fills, length_entry, put_whole}
 use Rattle.entries.proofs.filling.write_entry.Goals as goal
 
 pub returns : goal.returns
-unfolding fresh_slot
 returns c =
     let a = c.args in
     let p = c.requires in
-    let at = slot_length * a.slot in
-    let room : at ≤ length a.table.now = omega arith in
-    let head : Written a.table.now at (head_of a.terms.flag a.terms.suite a.terms.edition) _ (at + key_id_length_at) =
-    record { ends = rw (length_head a.terms.flag a.terms.suite a.terms.edition); is = c.write_head.ensures } in
-    let keyid = and_then head room (prefixed key_id_room a.keyid.now) (at + source_length_at)
-    (rw (length_prefixed key_id_room a.keyid.now p.2) (add_assoc at key_id_length_at (1 + key_id_room))) c.write_prefixed.ensures in
-    let source = and_then keyid room (prefixed source_room a.source.now) (at + key_at)
-    (rw (length_prefixed source_room a.source.now p.3) (add_assoc at source_length_at (1 + source_room))) c.write_prefixed-2.ensures in
-    let key = and_then source room a.key.now (at + size_at) (rw p.4 (add_assoc at key_at 32)) c.copy.ensures in
-    let framed = and_then key room (frame_bytes a.frame) (at + highest_at) (rw (length_frame a.frame) (add_assoc at size_at 16)) c.write_frame.ensures in
-    and_zeros highest_at framed room slot_length c.clear.ensures
+    let from = c.offset-from.ensures in
+    let k = keyed a.terms a.keyid.now a.source.now a.key.now in
+    let long = length_entry a.terms a.keyid.now a.source.now a.key.now a.frame p.keyid_fits p.source_fits p.key_fits in
+    let whole = length_of_slot a.table.now a.slot (omega arith) from.within in
+    written_back a.table.now a.slot _ _ (λ (s : List ℕ). put s 0 (fresh_slot k a.frame)) _ from.value (omega arith)
+    (fills a.terms a.keyid.now a.source.now a.key.now a.frame p.keyid_fits p.source_fits p.key_fits _ (lent_length a.table.now a.slot _ _ (omega arith) from.within from.value (omega arith))
+    c.write_head.ensures c.write_prefixed.ensures c.write_prefixed-2.ensures c.copy.ensures c.write_frame.ensures c.clear.ensures)
+    (length_put (slot_of a.table.now a.slot) 0 (fresh_slot k a.frame) (omega (arith, long, whole)) ∙ whole)
+    ∙ ap (replaced a.table.now a.slot) (put_whole (slot_of a.table.now a.slot) (fresh_slot k a.frame) (omega (arith, long, whole)))

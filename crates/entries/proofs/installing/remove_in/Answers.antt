@@ -1,28 +1,19 @@
 -- `entries::installing::remove_in` meets its contract, by the test that led to each answer. Assumes nothing.
-use Rattle.std.proofs.Common.{◌≡◌, refl, sym, ◌∙◌, true, ◌<◌, arith}
-use Rattle.slots.specs.Table.{slot_count, is_held}
+use Rattle.std.proofs.Common.{refl, sym, true≢false, ap, ◌∙◌, ℕ, ◌*◌, replicate}
+use Rattle.octets.specs.Octets.{put}
+use Rattle.slots.specs.Table.{slot_length}
+use Rattle.entries.specs.Install.{done_at}
 use Rattle.entries.proofs.Installs.{is_left}
-use Rattle.entries.proofs.Removing.{removes_not, removes, held_small}
-use Rattle.entries.proofs.installing.remove_in.Goals.{Else-not-held}
+use Rattle.entries.proofs.Removing.{removes_not, removes, not_held}
 use Rattle.entries.proofs.installing.remove_in.Goals as goal
 
-pub returns-then-not-held : goal.returns-then-not-held
-returns-then-not-held c =
-    let e = removes_not _ _ (sym c.held.ensures ∙ c.if-not-held.true) in
-    is_left e c.refuse.ensures refl
-
--- past the refusal the slot is there
-there : (c : Else-not-held) → let a = c.args in is_held a.table.now a.slot ≡ true
-there c = sym c.held.ensures ∙ c.if-not-held.false
-
-small : (c : Else-not-held) → c.args.slot < slot_count
-small c = held_small _ _ (there c)
-
-pub overflow_mul-slot : goal.overflow_mul-slot
-overflow_mul-slot c = omega (arith, small (goal.at.overflow_mul-slot c).Else-not-held)
-
-pub clear-requires : goal.clear-requires
-clear-requires c = omega (arith, small (goal.at.clear-requires c).Else-not-held)
+pub returns-in_default : goal.returns-in_default
+returns-in_default c = is_left (removes_not _ _ (not_held c.args.table.now c.args.slot (λ h. true≢false (sym (c.in_default.ensures.there.1 h))))) refl refl
 
 pub returns : goal.returns
-returns c = is_left (removes _ _ (there (goal.at.returns c).Else-not-held)) c.done_at.ensures c.clear.ensures
+returns c =
+    let t = c.args.table.now in
+    let same = c.in-Some.ensures.same in
+    rw (c.at.ensures, c.index.view_is)
+    (is_left (removes t c.args.slot (c.in-Some.ensures.there.0 refl)) (ap done_at same)
+    (c.clear.ensures ∙ ap (λ (n : ℕ). put t n (replicate slot_length 0)) (c.offset.ensures.value ∙ ap (λ (n : ℕ). slot_length * n) same)))

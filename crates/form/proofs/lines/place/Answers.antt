@@ -3,5 +3,5 @@ use Rattle.std.proofs.Common.{sym, ap}
 use Rattle.form.specs.Found.{place_of}
 use Rattle.form.proofs.lines.place.Goals as goal
 
-pub returns-in-Is : goal.returns-in-Is
-returns-in-Is c = sym (ap place_of c.in-Is.is)
+pub returns-in-Some : goal.returns-in-Some
+returns-in-Some c = sym (ap place_of c.in-Some.is)

@@ -1,7 +1,7 @@
 -- `format::key_data::sound` meets its contract: each refusal denies one fact, and where none is denied all hold. Assumes nothing.
-use Rattle.std.proofs.Common.{◌≡◌, sym, ap, ◌∙◌, Bool, true, false, ◌&&◌, not, true≢false, ℕ, arith, eqb, get_or}
+use Rattle.std.proofs.Common.{is_some, ◌≡◌, sym, ap, ◌∙◌, true, ◌&&◌, not, true≢false, arith, eqb, get_or}
 use Rattle.format.specs.KeyId.{key_id_starting, length_of, length_asked}
-use Rattle.format.specs.KeyData.{keyed, known}
+use Rattle.format.specs.KeyData.{keyed}
 use Rattle.format.proofs.KeyIds.{length_least}
 use Rattle.format.proofs.Soundness.{Sound, sound_test, unsound, by_flag, by_first, by_neither}
 use Rattle.format.proofs.key_data.sound.Goals.{After-length, Else-not-goes_with}
@@ -31,12 +31,9 @@ returns-then-source-gt-GREATEST_SOURCE c = unsound _ (λ s. omega (arith, s.sour
 pub returns-then-key-ne-KEY : goal.returns-then-key-ne-KEY
 returns-then-key-ne-KEY c = unsound _ (λ s. omega (arith, s.key_length))
 
-pub returns-in_default : goal.returns-in_default
-returns-in_default c =
-    unsound _ λ s.
-    let z : ◌≡◌ {A = Bool} false true = ap known (sym c.in_default.is ∙ c.numbered-numbered.ensures) ∙ s.suite_known in
-    let o : ◌≡◌ {A = ℕ} 0 1 = cc in
-    omega arith
+pub returns-then-is_none : goal.returns-then-is_none
+returns-then-is_none c =
+    unsound _ (λ s. true≢false (sym s.suite_known ∙ ap is_some (sym c.numbered.ensures) ∙ c.if-is_none.ensures))
 
 pub returns-then-not-goes_with : goal.returns-then-not-goes_with
 returns-then-not-goes_with c =
@@ -52,7 +49,7 @@ facts c asks named =
       source_least = omega arith;
       source_most = omega arith;
       key_length = omega arith;
-      suite_known = ap known (sym c.numbered-numbered.ensures ∙ c.in-Known.is);
+      suite_known = ap is_some (sym c.numbered.ensures) ∙ c.if-is_none.ensures;
       edition_goes = sym c.goes_with.ensures ∙ c.if-not-goes_with.false;
       named = named;
     }

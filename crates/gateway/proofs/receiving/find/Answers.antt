@@ -6,7 +6,7 @@ use Rattle.gateway.proofs.receiving.find.Goals.{After-length}
 use Rattle.gateway.proofs.receiving.find.Goals as goal
 
 room : (c : After-length) → Room c.args.message.now c.args.read
-room c = read_room c.args.message.now c.requires.1
+room c = read_room c.args.message.now c.requires
 
 pub overflow_add-end : goal.overflow_add-end
 overflow_add-end c = let r = room c in omega arith

@@ -24,5 +24,5 @@ returns-then-not-terms_so c =
 pub returns : goal.returns
 returns c =
     let a = c.args in
-    ap (λ (n : ℕ). eqb n 0) c.read.ensures.0
+    ap (λ (n : ℕ). eqb n 0) c.accepted.ensures
     ∙ by_total (settled_values a.text.now a.named a.terms) a.slot.now (named (goal.at.returns c).Else-not-named_so) (sym c.terms_so.ensures ∙ c.if-not-terms_so.false)

@@ -1,6 +1,6 @@
 -- `message::sealing::open` meets its contract: what the header's reading found gives room for all parts, and the payload is written only where the
 -- ICV is right. Assumes nothing.
-use Rattle.std.proofs.Common.{arith, rules, length-take, length-drop}
+use Rattle.std.proofs.Common.{arith, length-take, length-drop}
 use Rattle.message.specs.Sealing.{opened_under}
 use Rattle.message.proofs.Opening.{Compared, same_right, other_wrong}
 use Rattle.format.proofs.Room.{Room, read_room}
@@ -29,13 +29,13 @@ compared : (c : After-read) → let a = c.args in
     Compared a.header a.edition a.key.now a.source.now a.message.now c.read.result c.icv-icv.result
 compared c =
     let long = c.icv_length.ensures in
-    let base = c.key_words-base.ensures in
-    record { carries = rw (c.icv_length-2.ensures, long) at c.read.ensures.0; should = rw (base, long) at c.icv-icv.ensures }
+    let keys = c.new-keys.ensures in
+    record { carries = rw (c.icv_length-2.ensures, long) at c.read.ensures.0; should = rw (keys.0, keys.1, keys.2, c.key_words-base.ensures, long) at c.icv-icv.ensures }
 
 pub returns-then-read-icv : goal.returns-then-read-icv
 returns-then-read-icv c =
     let e = other_wrong (compared (goal.at.returns-then-read-icv c).After-read) (λ same. omega arith) in
-    record { value = rw e; out_after = rw e }
+    record { answers = rw e; writes = rw e }
 
 pub slice_bounds-encipher-count : goal.slice_bounds-encipher-count
 slice_bounds-encipher-count c =
@@ -48,9 +48,7 @@ slice_bounds-encipher-start c =
 pub encipher-requires : goal.encipher-requires
 encipher-requires c =
     let r = room (goal.at.encipher-requires c).After-length-start in
-    let p = c.requires in
-    let k = c.subkeys_of-subkeys.ensures in
-    (k.0, k.1, search rules, simp (length-take, length-drop) (omega arith), simp (length-take, length-drop) (omega arith))
+    (simp (length-take, length-drop) (omega arith), simp (length-take, length-drop) (omega arith))
 
 pub overflow_sub-result : goal.overflow_sub-result
 overflow_sub-result c = let r = room (goal.at.overflow_sub-result c).After-length-start in omega arith
@@ -58,7 +56,7 @@ overflow_sub-result c = let r = room (goal.at.overflow_sub-result c).After-lengt
 pub returns : goal.returns
 unfolding opened_under
 returns c =
-    let base = c.key_words-base.ensures in
+    let keys = c.new-keys.ensures in
     let long = c.icv_length.ensures in
     let e = same_right (compared (goal.at.returns c).After-read) (omega arith) in
-    record { value = rw (long, c.length-start.ensures, e); out_after = rw (c.encipher.ensures, base, long, c.length-start.ensures, e) }
+    record { answers = rw (long, c.length-start.ensures, e); writes = rw (c.encipher.ensures, keys.0, keys.1, keys.2, c.key_words-base.ensures, long, c.length-start.ensures, e) }

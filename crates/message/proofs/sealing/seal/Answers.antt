@@ -5,4 +5,4 @@ use Rattle.message.proofs.sealing.seal.Goals as goal
 pub returns : goal.returns
 returns c =
     let words = sym c.key_words-base.ensures in
-    record { value = c.seal_under.ensures.value _ words; out_after = c.seal_under.ensures.out_after _ words }
+    record { answers = c.seal_under.ensures.answers _ words; writes = c.seal_under.ensures.writes _ words }

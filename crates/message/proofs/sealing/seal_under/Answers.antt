@@ -16,20 +16,22 @@ written : (c : After-encipher) (key : List ℕ) → key_words key ≡ c.args.bas
     c.encipher.new.out ≡ put a.out.now 0 (front_of a.suite (keyed a.terms a.keyid.now a.source.now key) a.seqnum a.payload.now)
 written c key words =
     let a = c.args in
+    let keys = c.new-keys.ensures in
     front_written a.suite (keyed a.terms a.keyid.now a.source.now key) a.seqnum a.payload.now a.out.now c.write_header.ensures
-    (rw (sym words) at c.encipher.ensures)
+    (rw (keys.0, keys.1, keys.2, sym words) at c.encipher.ensures)
 
 pub slice_bounds-icv-end-2 : goal.slice_bounds-icv-end-2
 slice_bounds-icv-end-2 c = simp length-take (omega arith)
 
 pub returns : goal.returns
 returns c =
-    let a = c.args in record {
-      value = λ key words. rw c.icv_length-2.ensures
+    let a = c.args in
+    let keys = c.new-keys.ensures in record {
+      answers = λ key words. rw c.icv_length-2.ensures
           (sym (sealed_length a.suite (keyed a.terms a.keyid.now a.source.now key) a.seqnum a.payload.now));
-      out_after = λ key words. sealed_written a.suite (keyed a.terms a.keyid.now a.source.now key) a.seqnum a.payload.now a.out.now
+      writes = λ key words. sealed_written a.suite (keyed a.terms a.keyid.now a.source.now key) a.seqnum a.payload.now a.out.now
           (written (goal.at.returns c).After-encipher key words) c.icv-icv.result _
-          (rw (sym words) at c.icv-icv.ensures)
+          (rw (keys.0, keys.1, keys.2, sym words) at c.icv-icv.ensures)
           c.icv_length.ensures
           c.write.ensures;
     }

@@ -1,4 +1,4 @@
--- `slots::record::settle` meets its contract: four writes, each behind the one before. Assumes nothing.
+-- Four writes, each behind the one before. Assumes nothing.
 use Rattle.window.specs.Window.{view_of}
 use Rattle.slots.proofs.Settling.{settled_put}
 use Rattle.slots.proofs.record.settle.Goals as goal
@@ -6,7 +6,7 @@ use Rattle.slots.proofs.record.settle.Goals as goal
 pub returns : goal.returns
 returns c =
     let a = c.args in
-    settled_put a.table.now _ _ _ _ a.slot (view_of a.window) a.accepted a.bytes c.requires.0 c.requires.1
+    settled_put a.slot.now _ _ _ _ (view_of a.window) a.accepted a.bytes c.requires
     c.write.ensures
     c.write_marks.ensures
     c.write-2.ensures

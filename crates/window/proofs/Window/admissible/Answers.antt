@@ -11,8 +11,8 @@ returns-then-self-n c = says_admissible _ _ (omega arith) (marked_above _ _ c.if
 
 pub returns-then-has_bit : goal.returns-then-has_bit
 returns-then-has_bit c =
-    says_marked _ _ (omega arith) (marked_within _ _ (omega arith) ∙ sym c.has_bit.ensures ∙ c.if-has_bit.true)
+    says_marked _ _ (omega arith) (marked_within _ _ (omega arith) ∙ sym (rw c.marks.ensures at c.has_bit.ensures) ∙ c.if-has_bit.true)
 
 pub returns : goal.returns
 returns c =
-    says_admissible _ _ (omega arith) (marked_within _ _ (omega arith) ∙ sym c.has_bit.ensures ∙ c.if-has_bit.false)
+    says_admissible _ _ (omega arith) (marked_within _ _ (omega arith) ∙ sym (rw c.marks.ensures at c.has_bit.ensures) ∙ c.if-has_bit.false)

@@ -13,7 +13,7 @@ returns-then-self-gt-LAST c = damaged _ (λ u. omega (arith, u.high))
 
 pub returns-then-not-within : goal.returns-then-not-within
 returns-then-not-within c =
-    damaged_outside _ (rw c.reach.ensures at (sym c.within.ensures ∙ c.if-not-within.true))
+    damaged_outside _ (rw (c.reach.ensures, c.marks.ensures) at (sym c.within.ensures ∙ c.if-not-within.true))
 
 -- past the first test
 framed : (c : Else-not-sound_frame) → sound_frame (view_of c.args.self).frame ≡ true
@@ -22,10 +22,10 @@ framed c = sym c.sound_frame.ensures ∙ c.if-not-sound_frame.false
 pub returns-then-self-eq0 : goal.returns-then-self-eq0
 returns-then-self-eq0 c =
     undamaged_at_zero _ (framed (goal.at.returns-then-self-eq0 c).Else-not-sound_frame) (omega arith)
-    (rw c.reach.ensures at (sym c.within.ensures ∙ c.if-not-within.false)) c.if-self-eq0.true
+    (rw (c.reach.ensures, c.marks.ensures) at (sym c.within.ensures ∙ c.if-not-within.false)) c.if-self-eq0.true
 
 pub returns : goal.returns
 returns c =
-    c.has_bit.ensures
+    (rw c.marks-2.ensures at c.has_bit.ensures)
     ∙ undamaged_by_mark _ (framed (goal.at.returns c).Else-not-sound_frame) (omega arith)
-    (rw c.reach.ensures at (sym c.within.ensures ∙ c.if-not-within.false)) c.if-self-eq0.false
+    (rw (c.reach.ensures, c.marks.ensures) at (sym c.within.ensures ∙ c.if-not-within.false)) c.if-self-eq0.false

@@ -3,11 +3,11 @@ use Rattle.std.proofs.Common.{arith, ◌≡◌, sym, ap, ◌∙◌, ℕ, ne_eqb}
 use Rattle.format.specs.Suite.{number_of, suite_of}
 use Rattle.format.specs.declared.suite.Suite.{Suite}
 use Rattle.format.specs.declared.suite.Suite.TheVariants.{MagmaCtr, MagmaNull, MagmaCtrLong, MagmaNullLong}
-use Rattle.format.specs.declared.suite.Numbered.TheVariants.{Known}
 use Rattle.format.proofs.Suites.{number_suite}
 use Rattle.format.proofs.suite.Suite.numbered.Goals as goal
+use Rattle.std.specs.Prelude.{Some}
 
-found : (s : Suite) {cs : ℕ} → cs ≡ number_of s → Known s ≡ suite_of cs
+found : (s : Suite) {cs : ℕ} → cs ≡ number_of s → Some s ≡ suite_of cs
 found s e = sym (ap suite_of e ∙ number_suite s)
 
 pub returns-in-1 : goal.returns-in-1

@@ -1,0 +1,29 @@
+-- `Derivation::key_from` meets its contract: the blocks' data is what was written behind the place of their number. Assumes nothing.
+use Rattle.std.proofs.Common.{◌≡◌, ap, ◌∷◌, ◌+◌, arith, rules, length, take, replicate}
+use Rattle.derivation.specs.Derivation.{data_after}
+use Rattle.derivation.proofs.Pieces.{data_length, data_front}
+use Rattle.derivation.proofs.Derivation.key_from.Goals.{After-write_data}
+use Rattle.derivation.proofs.Derivation.key_from.Goals as goal
+
+-- the data as it is lent
+front : (c : After-write_data) → let a = c.args in
+    take (18 + length a.self.now.source.now) c.write_data.new.out ≡ 0 ∷ data_after a.self.now.purpose.suite a.self.now.purpose.edition a.self.now.source.now a.self.now.purpose.seqnum
+front c =
+    let a = c.args in
+    data_front a.self.now.purpose.suite a.self.now.purpose.edition a.self.now.source.now a.self.now.purpose.seqnum (replicate 50 0) (search rules) c.write_data.ensures
+
+lent : (c : After-write_data) → let a = c.args in
+    length (take (18 + length a.self.now.source.now) c.write_data.new.out) ≡ 18 + length a.self.now.source.now
+lent c =
+    let a = c.args in
+    omega (arith, ap length (front c), data_length a.self.now.purpose.suite a.self.now.purpose.edition a.self.now.source.now a.self.now.purpose.seqnum)
+
+pub slice_bounds-key_of_blocks-end : goal.slice_bounds-key_of_blocks-end
+slice_bounds-key_of_blocks-end c = omega (arith, lent (goal.at.slice_bounds-key_of_blocks-end c).After-write_data)
+
+pub key_of_blocks-requires : goal.key_of_blocks-requires
+key_of_blocks-requires c = (omega (arith, lent (goal.at.key_of_blocks-requires c).After-write_data), search rules)
+
+pub returns : goal.returns
+returns c =
+    rw (c.key_of_blocks.ensures, front (goal.at.returns c).After-write_data)
