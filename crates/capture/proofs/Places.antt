@@ -1,7 +1,7 @@
 -- The record at a place, one law for each of its tests; where its parts lie; and that the place after it is further on.
 -- Assumes nothing.
 use mathlib.Core.Path.{◌≡◌, sym, ◌∙◌}
-use mathlib.Core.Bool.{true, false, true≢false}
+use mathlib.Core.Bool.{false, true≢false}
 use mathlib.Core.List.{List}
 use Prim.Native.Nat.{ℕ, ◌+◌, ◌-◌, ◌≤◌, ◌<◌}
 use native.Mathlib.Omega.{arith}
@@ -10,7 +10,7 @@ use lib.Dec.{eqb, ltb}
 use lib.ListN.{length, get_or}
 use Rattle.numbers.proofs.Tests.{either, neither_left, neither_right}
 use Rattle.answers.specs.Answers.{cut_short, lengths_differ, unreadable}
-use Rattle.capture.specs.Capture.{record_length, nothing_left, without, left_at, captured_at, original_at, is_cut, is_unreadable, data_at, ordered_at, record_at, is_known}
+use Rattle.capture.specs.Capture.{record_length, nothing_left, without, left_at, captured_at, original_at, is_cut, is_unreadable, data_at, ordered_at}
 use Rattle.capture.specs.declared.order.Order.{Order}
 use Rattle.capture.specs.declared.record.Record.{Record}
 
@@ -74,7 +74,7 @@ pub record Placed (file : List ℕ) (at : ℕ) (r : Record) : Type 0 where
   pub message_next : r.message ≤ r.next
   pub within : r.next ≤ length file
   pub further : at < r.next
-  pub beside : at + (r.next - r.message) ≤ r.next
+  pub beside : at + (r.next - r.message) < r.next
   pub header : r.next < length file → at + record_length + (r.next - r.message) ≤ r.next
   pub listed : r.reply < 100
 
@@ -107,9 +107,9 @@ module _ (o : Order) (file : List ℕ) (at : ℕ) (some : at < length file) wher
         listed = omega arith;
       })
 
-  ordered_placed : Placed file at (ordered_at o file at)
+  pub placed : Placed file at (ordered_at o file at)
   unfolding ordered_at
-  ordered_placed =
+  placed =
       either (Placed file at) (eqb (left_at file at) 0) (without nothing_left (length file)) _ (λ none. absurd (true≢false (sym none ∙ left o file at some)))
       (λ _. either (Placed file at) (is_cut o file at) (without cut_short (length file)) _ (λ _. nothing cut_short (length file) (omega arith) some (omega arith) (λ l. omega arith))
       (λ uncut.
@@ -119,6 +119,3 @@ module _ (o : Order) (file : List ℕ) (at : ℕ) (some : at < length file) wher
       either (Placed file at) (eqb (captured_at o file at) (original_at o file at)) (data_at file (at + record_length) next) (without lengths_differ next)
       (λ _. data_placed next (omega arith) (omega arith))
       (λ _. nothing lengths_differ next (omega arith) (omega arith) (omega arith) (λ l. omega arith))))
-
-pub placed : (o : Order) → is_known o ≡ true → (file : List ℕ) (at : ℕ) → at < length file → Placed file at (record_at o file at)
-placed o is file at some = rw is (ordered_placed o file at some)

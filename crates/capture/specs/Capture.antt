@@ -1,11 +1,11 @@
 -- Captures (02, No. 1): "classic pcap of up to 65,536 bytes: the 24-byte header in either byte order, microsecond magic a1b2c3d4, version 2.4,
 -- link type 147; then records with their 16-byte headers. A record's data is one byte with the length of the SourceIdentifier, the
 -- identifier, then the message." All of it is said of the list of the file's bytes, and nothing of tables or of text.
-use Rattle.std.specs.Prelude.{Bool, true, false, cond, not, ◌||◌, List, [], ◌∷◌, ℕ, zero, suc, ◌+◌, ◌-◌, ◌*◌, eqb, ltb, length, get_or, drop}
+use Rattle.std.specs.Prelude.{Bool, true, cond, not, ◌||◌, List, [], ◌∷◌, ℕ, zero, suc, ◌+◌, ◌-◌, ◌*◌, eqb, ltb, length, get_or, drop, Option, Some, None}
 use Rattle.answers.specs.Answers.{bad_capture, cut_short, lengths_differ, unreadable}
 use Rattle.octets.specs.Octets.{big_endian, part}
 use Rattle.capture.specs.declared.order.Order.{Order}
-use Rattle.capture.specs.declared.order.Order.TheVariants.{HighFirst, LowFirst, Unknown}
+use Rattle.capture.specs.declared.order.Order.TheVariants.{HighFirst, LowFirst}
 use Rattle.capture.specs.declared.record.Record.{Record}
 
 -- ---- numbers in a file
@@ -18,7 +18,6 @@ little_endian (suc n) bytes = little_endian n (drop 1 bytes) * 256 + get_or byte
 abbrev pub number_in : Order → ℕ → List ℕ → ℕ
 number_in HighFirst n bytes = big_endian n bytes
 number_in LowFirst n bytes = little_endian n bytes
-number_in Unknown n bytes = 0
 
 -- ---- the header
 
@@ -33,36 +32,33 @@ abbrev pub record_length : ℕ
 record_length = 16
 
 -- "the 24-byte header in either byte order, microsecond magic a1b2c3d4": the order in which the first four bytes are that number
-unfoldable pub magic_of : List ℕ → Order
-magic_of file = cond (eqb (big_endian 4 file) 0xa1b2c3d4) HighFirst (cond (eqb (little_endian 4 file) 0xa1b2c3d4) LowFirst Unknown)
+unfoldable pub magic_of : List ℕ → Option Order
+magic_of file =
+    cond (eqb (big_endian 4 file) 0xa1b2c3d4) (Some HighFirst) (cond (eqb (little_endian 4 file) 0xa1b2c3d4) (Some LowFirst) None)
 
--- "17 header bad or file size outside 24 to 65,536"; version and link type are read in the file's order, and where it has none the version is not 2;
+-- "17 header bad or file size outside 24 to 65,536"; version and link type are read in the file's order, and a header that has none is bad;
 -- "Other header fields are not looked at."
-abbrev pub is_bad : Order → List ℕ → Bool
-is_bad o file =
+abbrev pub is_bad : Option Order → List ℕ → Bool
+is_bad (Some o) file =
     ltb (length file) header_length
     || ltb longest_file (length file)
     || not (eqb (number_in o 2 (drop 4 file)) 2)
     || not (eqb (number_in o 2 (drop 6 file)) 4)
     || not (eqb (number_in o 4 (drop 20 file)) 147)
+is_bad None file = true
 
--- the order of a file's numbers; unknown where that is 17
-unfoldable pub order_of : List ℕ → Order
-order_of file = cond (is_bad (magic_of file) file) Unknown (magic_of file)
+-- the order of a file's numbers; none where that is 17
+unfoldable pub order_of : List ℕ → Option Order
+order_of file = cond (is_bad (magic_of file) file) None (magic_of file)
 
 -- the orders by number, for C
-abbrev pub order_number : Order → ℕ
-order_number HighFirst = 1
-order_number LowFirst = 2
-order_number Unknown = bad_capture
+abbrev pub order_number : Option Order → ℕ
+order_number (Some HighFirst) = 1
+order_number (Some LowFirst) = 2
+order_number None = bad_capture
 
-unfoldable pub order_numbered : ℕ → Order
-order_numbered n = cond (eqb n 1) HighFirst (cond (eqb n 2) LowFirst Unknown)
-
-abbrev pub is_known : Order → Bool
-is_known HighFirst = true
-is_known LowFirst = true
-is_known Unknown = false
+unfoldable pub order_numbered : ℕ → Option Order
+order_numbered n = cond (eqb n 1) (Some HighFirst) (cond (eqb n 2) (Some LowFirst) None)
 
 -- ---- a record
 
@@ -107,8 +103,9 @@ ordered_at o file at =
     cond (eqb (captured_at o file at) (original_at o file at)) (data_at file (at + record_length) next) (without lengths_differ next)))
 
 -- of a file whose numbers have no order there is no record
-abbrev pub record_at : Order → List ℕ → ℕ → Record
-record_at o file at = cond (is_known o) (ordered_at o file at) (without bad_capture (length file))
+abbrev pub record_at : Option Order → List ℕ → ℕ → Record
+record_at (Some o) file at = ordered_at o file at
+record_at None file at = without bad_capture (length file)
 
 -- ---- the records of a file
 
@@ -128,12 +125,16 @@ item_of file r = record {
 -- the records from a place on, n of them at most
 unfoldable pub records_in : ℕ → Order → List ℕ → ℕ → List Item
 records_in zero o file at = []
-records_in (suc n) o file at = cond (ltb at (length file)) (item_of file (record_at o file at) ∷ records_in n o file (record_at o file at).next) []
+records_in (suc n) o file at = cond (ltb at (length file)) (item_of file (ordered_at o file at) ∷ records_in n o file (ordered_at o file at).next) []
 
 -- all of them: a file has fewer records than bytes
 abbrev pub records_from : Order → List ℕ → ℕ → List Item
 records_from o file at = records_in (length file) o file at
 
 -- "the records of a file": none where its header is bad
+abbrev pub records_by : Option Order → List ℕ → List Item
+records_by (Some o) file = records_from o file header_length
+records_by None file = []
+
 abbrev pub records_of : List ℕ → List Item
-records_of file = cond (is_known (order_of file)) (records_from (order_of file) file header_length) []
+records_of file = records_by (order_of file) file

@@ -29,18 +29,18 @@ pub struct Record {
     pub next: usize,
 }
 
-// The record at a place of a file whose numbers are in that order, and the place after it.
-pub fn record_at(file: &[u8], order: Order, at: usize) -> Record
+// The record at a place of a file, and the place after it; 17 where the file's numbers have no order.
+pub fn record_at(file: &[u8], order: Option<Order>, at: usize) -> Record
     ensures { result ≡ record_at order file.now at }
 {
-    if !order.is_known() {
+    let Some(order) = order else {
         return without(Refusal::BadCapture, file.len());
-    }
+    };
     ordered_at(file, order, at)
 }
 
-// The same where the order is known: 18, 19 and what the data says.
-fn ordered_at(file: &[u8], order: Order, at: usize) -> Record
+// The same where they have one: the file's end, 18, 19 and what the data says.
+pub fn ordered_at(file: &[u8], order: Order, at: usize) -> Record
     ensures { result ≡ ordered_at order file.now at }
 {
     if file.len() <= at {
@@ -76,15 +76,15 @@ fn data_at(file: &[u8], at: usize, next: usize) -> Record
         return without(Refusal::Unreadable, next);
     }
     let source = at + 1;
-    let identifier = octets::wide(file[at]) as usize;
+    let identifier = file[at] as usize;
     if next - source < identifier {
         return without(Refusal::Unreadable, next);
     }
     Record {
         reply: answers::DONE,
-        source: source,
+        source,
         message: source + identifier,
-        next: next,
+        next,
     }
 }
 

@@ -73,8 +73,8 @@ pub extern "C" fn cipher_keys_1(
     source: &[u8; 12],
     seqnum: u64,
 ) -> BothKeys
-    ensures check { result.check ≡ check_key base.now MagmaCtr edition source.now seqnum }
-    ensures cipher { result.cipher ≡ cipher_key base.now MagmaCtr edition source.now seqnum }
+    ensures check { result.check ≡ check_key (record { base = base.now; suite = MagmaCtr; edition = edition; source = source.now; seq_num = seqnum }) }
+    ensures cipher { result.cipher ≡ cipher_key (record { base = base.now; suite = MagmaCtr; edition = edition; source = source.now; seq_num = seqnum }) }
 {
     let purpose = Purpose {
         suite: Suite::MagmaCtr,
@@ -91,7 +91,7 @@ pub extern "C" fn cipher_keys_1(
 // The key of suite 2 for a source of 12 bytes.
 #[unsafe(no_mangle)]
 pub extern "C" fn cipher_key_2(base: &[u32; 8], source: &[u8; 12], seqnum: u64) -> CheckKey
-    ensures { result.check ≡ check_key base.now MagmaNull 2 source.now seqnum }
+    ensures { result.check ≡ check_key (record { base = base.now; suite = MagmaNull; edition = 2; source = source.now; seq_num = seqnum }) }
 {
     let purpose = Purpose {
         suite: Suite::MagmaNull,

@@ -110,8 +110,7 @@ pub extern "C" fn crisp_protect(sender: &mut Sender, payload: &[u8], out: &mut [
 pub extern "C" fn crisp_capture_order(file: &[u8]) -> u64
     ensures { result ≡ order_number (order_of file.now) }
 {
-    let order = order::order_of(file);
-    order.number()
+    Order::number(order::order_of(file))
 }
 
 // As `capture::record::record_at`, with the order by its number.

@@ -5,6 +5,14 @@ use Rattle.modes.specs.Modes.{magma_check}
 use Rattle.format.specs.Suite.{label_of, number_of, key_blocks_of, output_bits_of}
 use Rattle.format.specs.declared.suite.Suite.{Suite}
 
+-- what keys are derived from: the base key's words, suite, edition, source and SeqNum
+pub record Inputs : Type 0 where
+  pub base : List ℕ
+  pub suite : Suite
+  pub edition : ℕ
+  pub source : List ℕ
+  pub seq_num : ℕ
+
 -- 35 bits of SeqNum's 48: in edition 1 the low ones, else the top ones
 abbrev pub serial_of : ℕ → ℕ → ℕ
 serial_of edition seq_num = cond (eqb edition 1) (seq_num % 2 ^ 35) (seq_num / 2 ^ 13)
@@ -23,8 +31,8 @@ data_after s edition source seq_num =
     label_of s ++ bytes_of 1 6 ++ sn_of edition seq_num ++ source ++ bytes_of 1 (number_of s) ++ bytes_of 2 (6 + length source) ++ bytes_of 2 (output_bits_of s)
 
 -- block i: the whole check value, under the base key, of its number and the rest
-abbrev pub key_block : List ℕ → Suite → ℕ → List ℕ → ℕ → ℕ → ℕ
-key_block base s edition source seq_num i = magma_check base (i ∷ data_after s edition source seq_num)
+abbrev pub key_block : Inputs → ℕ → ℕ
+key_block d i = magma_check d.base (i ∷ data_after d.suite d.edition d.source d.seq_num)
 
 -- the words of n blocks from a first one on, two a block
 unfoldable pub block_words : (ℕ → ℕ) → ℕ → ℕ → List ℕ
@@ -32,11 +40,11 @@ block_words block first zero = []
 block_words block first (suc n) = block_words block first n ++ (block (first + n) / 2 ^ 32 ∷ block (first + n) % 2 ^ 32 ∷ [])
 
 -- the key that the blocks from a first one on make: of Magma's, 1 to 4 the check key, 5 to 8 the cipher key
-abbrev pub key_from : List ℕ → Suite → ℕ → List ℕ → ℕ → ℕ → List ℕ
-key_from base s edition source seq_num first = block_words (key_block base s edition source seq_num) first (key_blocks_of s)
+abbrev pub key_from : Inputs → ℕ → List ℕ
+key_from d first = block_words (key_block d) first (key_blocks_of d.suite)
 
-abbrev pub check_key : List ℕ → Suite → ℕ → List ℕ → ℕ → List ℕ
-check_key base s edition source seq_num = key_from base s edition source seq_num 1
+abbrev pub check_key : Inputs → List ℕ
+check_key d = key_from d 1
 
-abbrev pub cipher_key : List ℕ → Suite → ℕ → List ℕ → ℕ → List ℕ
-cipher_key base s edition source seq_num = key_from base s edition source seq_num (1 + key_blocks_of s)
+abbrev pub cipher_key : Inputs → List ℕ
+cipher_key d = key_from d (1 + key_blocks_of d.suite)

@@ -5,11 +5,13 @@ ghost use Rattle.std.specs.Prelude.{◌∷◌, ◌≡◌, ◌+◌, ◌<◌, ◌�
 ghost use Rattle.octets.specs.Octets.{put};
 ghost use Rattle.modes.specs.Modes.{magma_check};
 ghost use Rattle.format.specs.Suite.{key_blocks_of};
-ghost use Rattle.derivation.specs.Derivation.{serial_of, data_after, block_words, key_from, check_key, cipher_key};
+ghost use Rattle.derivation.specs.Derivation.{Inputs, serial_of, iv_of, data_after, block_words, key_from, check_key, cipher_key};
 
 use format::key_data;
 use format::suite::Suite;
+use magma::Halves;
 use modes::CheckKey;
+use std::marker::Model;
 
 // What a key is derived for: the suite, the edition and the number of a message.
 #[derive(Clone, Copy)]
@@ -19,13 +21,23 @@ pub struct Purpose {
     pub seqnum: u64,
 }
 
-// What the keys of a message are derived from. Contracts see the base key's words.
+// What the keys of a message are derived from, with a source of at most 32 bytes.
 #[derive(Drop)]
 pub struct Derivation<'a> {
-    pub base: CheckKey<'a>,
-    pub purpose: Purpose,
-    pub source: &'a [u8],
-    ghost short: { length source.now ≤ 32 },
+    base: CheckKey<'a>,
+    purpose: Purpose,
+    source: &'a [u8],
+}
+
+impl<'a> Model for Derivation<'a> {
+    ghost use Rattle.std.specs.Prelude.{◌≤◌, length};
+    ghost use Rattle.derivation.specs.Derivation.{Inputs};
+
+    ghost Value = { Inputs };
+
+    ghost view = { λ d. record { base = d.base; suite = d.purpose.suite; edition = d.purpose.edition; source = d.source.now; seq_num = d.purpose.seqnum } };
+
+    ghost invariant = { λ d. length d.source.now ≤ 32 };
 }
 
 // The first of the blocks that make the check key.
@@ -45,7 +57,7 @@ impl<'a> Derivation<'a> {
     // From a base key, for a purpose, by a source.
     pub fn new(base: &'a [u32; 8], purpose: Purpose, source: &'a [u8]) -> Derivation<'a>
         requires { length source.now ≤ 32 }
-        ensures { (result.base ≡ base.now) × (result.purpose ≡ purpose) × (result.source.now ≡ source.now) }
+        ensures { result ≡ record { base = base.now; suite = purpose.suite; edition = purpose.edition; source = source.now; seq_num = purpose.seqnum } }
     {
         Derivation {
             base: CheckKey::of(base),
@@ -54,16 +66,37 @@ impl<'a> Derivation<'a> {
         }
     }
 
+    // The suite of the message.
+    pub fn suite(&self) -> Suite
+        ensures { result ≡ self.now.suite }
+    {
+        self.purpose.suite
+    }
+
+    // The number of the message.
+    pub fn seqnum(&self) -> u64
+        ensures { result ≡ self.now.seq_num }
+    {
+        self.purpose.seqnum
+    }
+
+    // The IV of the message: SeqNum's low 32 bits.
+    pub fn iv(&self) -> u32
+        ensures { result ≡ iv_of self.now.seq_num }
+    {
+        (self.purpose.seqnum % (1 << 32)) as u32
+    }
+
     // The key of the ICV.
     pub fn check_key(&self) -> [u32; 8]
-        ensures { result ≡ check_key self.now.base self.now.purpose.suite self.now.purpose.edition self.now.source.now self.now.purpose.seqnum }
+        ensures { result ≡ check_key self.now }
     {
         self.key_from(CHECK)
     }
 
     // The key of the counter mode.
     pub fn cipher_key(&self) -> [u32; 8]
-        ensures { result ≡ cipher_key self.now.base self.now.purpose.suite self.now.purpose.edition self.now.source.now self.now.purpose.seqnum }
+        ensures { result ≡ cipher_key self.now }
     {
         self.key_from(cipher_first(self.purpose.suite))
     }
@@ -71,7 +104,7 @@ impl<'a> Derivation<'a> {
     // The key that the blocks from `first` on make, four of Magma's.
     pub fn key_from(&self, first: u8) -> [u32; 8]
         requires { first < 6 }
-        ensures { result ≡ key_from self.now.base self.now.purpose.suite self.now.purpose.edition self.now.source.now self.now.purpose.seqnum first }
+        ensures { result ≡ key_from self.now first }
     {
         let mut data = [0; LONGEST];
         write_data(self.purpose, self.source, &mut data);
@@ -101,8 +134,8 @@ fn serial(edition: u8, seqnum: u64) -> u64
     ensures { result ≡ serial_of edition seqnum }
 {
     match edition {
-        key_data::LSB => seqnum % 34359738368,
-        _ => seqnum / 8192,
+        key_data::LSB => seqnum % (1 << 35),
+        _ => seqnum >> 13,
     }
 }
 
@@ -114,9 +147,9 @@ fn key_of_blocks(base: &CheckKey, bytes: &mut [u8], first: u8) -> [u32; 8]
     let mut words = [0; 8];
     for k in 0..4 {
         bytes[0] = first + (k as u8);
-        let block = base.check_value(bytes);
-        words[2 * k] = (block >> 32) as u32;
-        words[2 * k + 1] = (block % 4294967296) as u32;
+        let block = Halves::from(base.check_value(bytes));
+        words[2 * k] = block.high;
+        words[2 * k + 1] = block.low;
     }
     words
 }

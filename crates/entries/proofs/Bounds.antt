@@ -8,10 +8,11 @@ use native.Mathlib.Omega.{arith}
 use borrow.Author.Tests.{ne_eqb}
 use lib.ListN.{length, get_or}
 use Rattle.slots.specs.Table.{key_id_room}
-use Rattle.format.specs.KeyData.{goes_with, KeyData}
+use Rattle.entries.specs.Fresh.{FitsSlot}
+use Rattle.format.specs.KeyData.{goes_with, sound_of, KeyData}
 use Rattle.format.specs.Suite.{suite_of}
 use Rattle.format.proofs.KeyIds.{length_most}
-use Rattle.format.proofs.Soundness.{Sound}
+use Rattle.format.proofs.Soundness.{Sound, sound_facts}
 use Rattle.format.proofs.Suites.{number_lt, suite_number}
 use Rattle.std.specs.Prelude.{None, Option, Some, is_some}
 use Rattle.format.specs.declared.suite.Suite.{Suite}
@@ -29,6 +30,9 @@ edition_small edition suite e = by (dec_lt edition 256)
     by : Dec (edition < 256) → edition < 256
     by (yes h) = h
     by (no h) = absurd (false≢true (rw (ne_eqb edition 2 (λ p. omega arith), ne_eqb edition 1 (λ p. omega arith)) at e))
+
+pub fits_slot : {k : KeyData} → sound_of k ≡ true → length k.key_id ≤ 128 → FitsSlot k
+fits_slot {k} sound short = let facts = sound_facts k sound in record { key_id = short; source = facts.source_most; key = facts.key_length }
 
 module _ {k : KeyData} (sound : Sound k) where
   pub keyid_most : get_or k.key_id 0 0 < 256 → length k.key_id ≤ key_id_room

@@ -1,7 +1,7 @@
 -- What remove comes to, by the test of 16; and that test as facts.
 -- Assumes nothing.
 use mathlib.Core.Path.{◌≡◌}
-use mathlib.Core.Bool.{true, false, not-eq-not}
+use mathlib.Core.Bool.{true, false}
 use mathlib.Core.List.{List}
 use Prim.Native.Nat.{ℕ, ◌<◌}
 use borrow.Author.Tests.{lt-ltb, ltb-true}
@@ -29,6 +29,3 @@ module _ (t : List ℕ) (i : ℕ) where
 
   pub held_is_true : i < slot_count → occupied (slot_of t i) ≡ true → is_held t i ≡ true
   held_is_true small busy = and_both (ltb i slot_count) (occupied (slot_of t i)) (lt-ltb i slot_count small) busy
-
-  pub not_held : (is_held t i ≡ true → ⊥) → is_held t i ≡ false
-  not_held h = (not-eq-not {a = is_held t i} {b = false}).0 h

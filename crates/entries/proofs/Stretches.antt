@@ -9,11 +9,10 @@ use lib.ListN.{length, replicate, length-append, length-replicate, drop_of_lengt
 use Rattle.octets.specs.Octets.{bytes_of, put}
 use Rattle.octets.proofs.BigEndian.{length_bytes}
 use Rattle.octets.proofs.Places.{Written, and_then}
-use Rattle.format.specs.KeyData.{keyed}
-use Rattle.format.specs.declared.key_data.Terms.{Terms}
+use Rattle.format.specs.KeyData.{KeyData}
 use Rattle.window.specs.declared.Frame.{Frame}
 use Rattle.slots.specs.Table.{slot_length, key_id_length_at, source_length_at, key_at, size_at, highest_at, key_id_room, source_room}
-use Rattle.entries.specs.Fresh.{padded, prefixed, head_of, frame_bytes, fresh_slot}
+use Rattle.entries.specs.Fresh.{FitsSlot, padded, prefixed, head_of, frame_bytes, fresh_slot}
 
 pub length_padded : (n : ℕ) (bytes : List ℕ) → length bytes ≤ n → length (padded n bytes) ≡ n
 length_padded n bytes h = simp (length-append, length-replicate) (omega arith)
@@ -50,27 +49,27 @@ length_head flag suite edition = simp (length-append, length_bytes)
 pub length_frame : (f : Frame) → length (frame_bytes f) ≡ 16
 length_frame f = simp (length-append, length_bytes)
 
-module _ (terms : Terms) (keyid source key : List ℕ) (f : Frame) (k : length keyid ≤ key_id_room) (n : length source ≤ source_room) (m : length key ≡ 32) where
+module _ (k : KeyData) (f : Frame) (fits : FitsSlot k) where
   abbrev filled : List ℕ
-  filled = head_of terms.flag terms.suite terms.edition ++ prefixed key_id_room keyid ++ prefixed source_room source ++ key ++ frame_bytes f
+  filled = head_of k.flag k.suite k.edition ++ prefixed key_id_room k.key_id ++ prefixed source_room k.source ++ k.key ++ frame_bytes f
 
   length_filled : length filled ≡ highest_at
-  length_filled = simp (length-append, length_bytes, length-replicate, m) (omega arith)
+  length_filled = simp (length-append, length_bytes, length-replicate, fits.key) (omega arith)
 
-  pub length_entry : length (fresh_slot (keyed terms keyid source key) f) ≡ slot_length
+  pub length_entry : length (fresh_slot k f) ≡ slot_length
   unfolding fresh_slot
   length_entry = length_padded slot_length filled (rw length_filled (lit≤ tt))
 
   -- its stretches are written, each behind the last
   pub fills : (s : List ℕ) → length s ≡ slot_length → {one two three four five six : List ℕ}
-      → one ≡ put s 0 (head_of terms.flag terms.suite terms.edition) → two ≡ put one key_id_length_at (prefixed key_id_room keyid)
-      → three ≡ put two source_length_at (prefixed source_room source) → four ≡ put three key_at key → five ≡ put four size_at (frame_bytes f)
-      → six ≡ put five highest_at (replicate (slot_length - highest_at) 0) → six ≡ put s 0 (fresh_slot (keyed terms keyid source key) f)
+      → one ≡ put s 0 (head_of k.flag k.suite k.edition) → two ≡ put one key_id_length_at (prefixed key_id_room k.key_id)
+      → three ≡ put two source_length_at (prefixed source_room k.source) → four ≡ put three key_at k.key → five ≡ put four size_at (frame_bytes f)
+      → six ≡ put five highest_at (replicate (slot_length - highest_at) 0) → six ≡ put s 0 (fresh_slot k f)
   unfolding fresh_slot
   fills s long {one} e g h i j last =
-      let head : Written s 0 (head_of terms.flag terms.suite terms.edition) one key_id_length_at = record { ends = rw (length_head terms.flag terms.suite terms.edition); is = e } in
-      let named = and_then head (omega arith) (prefixed key_id_room keyid) source_length_at (rw (length_prefixed key_id_room keyid k)) g in
-      let sourced = and_then named (omega arith) (prefixed source_room source) key_at (rw (length_prefixed source_room source n)) h in
-      let keyed_there = and_then sourced (omega arith) key size_at (rw m) i in
+      let head : Written s 0 (head_of k.flag k.suite k.edition) one key_id_length_at = record { ends = rw (length_head k.flag k.suite k.edition); is = e } in
+      let named = and_then head (omega arith) (prefixed key_id_room k.key_id) source_length_at (rw (length_prefixed key_id_room k.key_id fits.key_id)) g in
+      let sourced = and_then named (omega arith) (prefixed source_room k.source) key_at (rw (length_prefixed source_room k.source fits.source)) h in
+      let keyed_there = and_then sourced (omega arith) k.key size_at (rw fits.key) i in
       let framed = and_then keyed_there (omega arith) (frame_bytes f) highest_at (rw (length_frame f)) j in
       and_zeros highest_at framed (omega arith) slot_length last

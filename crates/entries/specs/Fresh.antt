@@ -1,10 +1,16 @@
 -- A fresh entry's slot (01, "Replies": "so do an installed entry's places past its KeyId and identifier" hold zeros only; "starts fresh"; 02, No. 2:
 -- "Install must take a start number, .. and the entry keeps it"; No. 4: "Key data gets an edition"; No. 8, whose counters begin with 0).
-use Rattle.std.specs.Prelude.{List, ◌++◌, ℕ, ◌-◌, length, replicate}
+use Rattle.std.specs.Prelude.{◌≡◌, ◌≤◌, List, ◌++◌, ℕ, ◌-◌, length, replicate}
 use Rattle.octets.specs.Octets.{bytes_of}
 use Rattle.format.specs.KeyData.{KeyData}
 use Rattle.window.specs.declared.Frame.{Frame}
 use Rattle.slots.specs.Table.{slot_length, key_id_room, source_room}
+
+-- key data whose parts have room in a slot
+pub record FitsSlot (k : KeyData) : Type 0 where
+  pub key_id : length k.key_id ≤ key_id_room
+  pub source : length k.source ≤ source_room
+  pub key : length k.key ≡ 32
 
 -- bytes with zeros behind them, n in all
 abbrev pub padded : ℕ → List ℕ → List ℕ

@@ -1,12 +1,11 @@
 // A fresh entry's slot, written.
 ghost use Rattle.std.specs.Prelude.{◌≡◌, ◌+◌, ◌<◌, ◌≤◌, length};
 ghost use Rattle.octets.specs.Octets.{put};
-ghost use Rattle.format.specs.KeyData.{keyed};
-ghost use Rattle.slots.specs.Table.{slot_length, occupied_at, size_at, key_id_room, source_room, replaced};
-ghost use Rattle.entries.specs.Fresh.{prefixed, head_of, frame_bytes, fresh_slot};
+ghost use Rattle.slots.specs.Table.{slot_length, occupied_at, size_at, replaced};
+ghost use Rattle.entries.specs.Fresh.{FitsSlot, prefixed, head_of, frame_bytes, fresh_slot};
 
 use format::key_data;
-use format::key_data::Terms;
+use format::key_data::KeyData;
 use slots::index::SlotIndex;
 use slots::layout;
 use slots::layout::{SLOT, TABLE};
@@ -16,41 +15,41 @@ use window::Frame;
 pub(crate) fn write_entry(
     table: &mut [u8; TABLE],
     slot: SlotIndex,
-    terms: Terms,
-    keyid: &[u8],
-    source: &[u8],
-    key: &[u8],
+    keys: &KeyData<'_>,
     frame: Frame,
 )
-    requires keyid_fits { length keyid.now ≤ key_id_room }
-    requires source_fits { length source.now ≤ source_room }
-    requires key_fits { length key.now ≡ 32 }
-    ensures { table.new ≡ replaced table.old slot (fresh_slot (keyed terms keyid.now source.now key.now) frame) }
+    requires { FitsSlot keys.now }
+    ensures { table.new ≡ replaced table.old slot (fresh_slot keys.now frame) }
 {
     let from = slot.offset();
     let fresh = &mut table[from..from + SLOT];
-    write_head(fresh, terms);
-    write_prefixed(keyid, fresh, layout::KEYID_LENGTH, key_data::GREATEST_KEYID);
+    write_head(fresh, keys);
     write_prefixed(
-        source,
+        keys.keyid,
+        fresh,
+        layout::KEYID_LENGTH,
+        key_data::GREATEST_KEYID,
+    );
+    write_prefixed(
+        keys.source,
         fresh,
         layout::SOURCE_LENGTH,
         key_data::GREATEST_SOURCE,
     );
-    octets::copy(key, fresh, layout::KEY);
+    octets::copy(keys.key, fresh, layout::KEY);
     write_frame(fresh, frame);
     octets::clear(fresh, layout::HIGHEST, SLOT - layout::HIGHEST);
 }
 
 // The first bytes of an occupied slot.
-fn write_head(slot: &mut [u8], terms: Terms)
+fn write_head(slot: &mut [u8], keys: &KeyData<'_>)
     requires { length slot.old ≡ slot_length }
-    ensures { slot.new ≡ put slot.old occupied_at (head_of terms.flag terms.suite terms.edition) }
+    ensures { slot.new ≡ put slot.old occupied_at (head_of keys.now.flag keys.now.suite keys.now.edition) }
 {
     octets::write(slot, layout::OCCUPIED, 1, 1);
-    octets::write(slot, layout::FLAG, 1, terms.flag as u64);
-    octets::write(slot, layout::SUITE, 1, terms.suite as u64);
-    octets::write(slot, layout::EDITION, 1, terms.edition as u64);
+    octets::write(slot, layout::FLAG, 1, keys.flag as u64);
+    octets::write(slot, layout::SUITE, 1, keys.suite as u64);
+    octets::write(slot, layout::EDITION, 1, keys.edition as u64);
 }
 
 // What is settled of the window.

@@ -6,7 +6,7 @@ ghost use Rattle.entries.specs.Change.{changed};
 ghost use Rattle.entries.specs.Install.{IsLeft, installed, removed};
 
 use answers::Answer;
-use format::key_data::Terms;
+use format::key_data::KeyData;
 use slots::layout::TABLE;
 use window::Frame;
 
@@ -29,13 +29,16 @@ pub fn install(
 ) -> Answer
     ensures { IsLeft (installed table.old (handed_in flag keyid.now source.now suite edition key.now) (record { size = size; start = start })) result table.new }
 {
-    let terms = Terms {
+    let keys = KeyData {
         flag,
+        keyid,
+        source,
         suite,
         edition,
+        key,
     };
     let frame = Frame { size, start };
-    installing::install_in(table, terms, keyid, source, key, frame).into()
+    installing::install_in(table, &keys, frame).into()
 }
 
 // The slot is freed and holds zeros only. Refuses with 16 (slot over 15, or free).
@@ -61,11 +64,14 @@ pub fn change(
 ) -> Answer
     ensures { IsLeft (changed table.old slot (handed_in flag keyid.now source.now suite edition key.now) (record { size = size; start = start })) result table.new }
 {
-    let terms = Terms {
+    let keys = KeyData {
         flag,
+        keyid,
+        source,
         suite,
         edition,
+        key,
     };
     let frame = Frame { size, start };
-    changing::change_in(table, slot, terms, keyid, source, key, frame).into()
+    changing::change_in(table, slot, &keys, frame).into()
 }

@@ -14,12 +14,9 @@ pub line_most : (n reply : ℕ) (payload : List ℕ) → n < 10000 → reply < 1
 unfolding line_of
 line_most n reply payload h k = simp length-append (omega (arith, digits_most 3 n h, digits_most 1 reply k, length_hex payload))
 
--- how far its first field, and its first two, reach
-pub number_most : (n : ℕ) → n < 10000 → length (decimal_field record_name n) ≤ 11
-number_most n h = simp length-append (omega (arith, digits_most 3 n h))
-
-pub answer_most : (reply : ℕ) → reply < 100 → length (decimal_field answer_name reply) ≤ 10
-answer_most reply h = simp length-append (omega (arith, digits_most 1 reply h))
+-- how far its first field reaches
+pub number_most : (n : ℕ) → n < 100000 → length (decimal_field record_name n) ≤ 12
+number_most n h = simp length-append (omega (arith, digits_most 4 n h))
 
 pub line_written : {o₁ o₂ o₃ : List ℕ} {e₁ e₂ e₃ : ℕ} (l : List ℕ) (at n reply : ℕ) (payload : List ℕ) → at ≤ length l
     → Written l at (decimal_field record_name n) o₁ e₁ → Written o₁ e₁ (decimal_field answer_name reply) o₂ e₂ → Written o₂ e₂ (hex_line payload_name payload) o₃ e₃

@@ -1,7 +1,7 @@
 -- A file read record by record: what is left of it decides what comes out in the end, and the text never outgrows its room.
 -- Assumes nothing.
 use mathlib.Core.Path.{◌≡◌, refl, sym, ap, ◌∙◌}
-use mathlib.Core.Bool.{Bool, true, false}
+use mathlib.Core.Bool.{Bool, false}
 use mathlib.Core.List.{List, ◌++◌}
 use Prim.Native.Nat.{ℕ, suc, ◌+◌, ◌-◌, ◌*◌, ◌≤◌, ◌<◌}
 use native.Mathlib.Nat.{zero-add}
@@ -14,7 +14,7 @@ use Rattle.octets.specs.Octets.{put}
 use Rattle.octets.proofs.Places.{length_put, put_behind}
 use Rattle.format.specs.Header.{least_message}
 use Rattle.text.proofs.Lines.{nothing_written}
-use Rattle.capture.specs.Capture.{Item, is_known, header_length, longest_file, item_of, record_at, records_from}
+use Rattle.capture.specs.Capture.{Item, header_length, longest_file, item_of, ordered_at, records_from}
 use Rattle.capture.specs.declared.order.Order.{Order}
 use Rattle.capture.specs.declared.record.Record.{Record}
 use Rattle.capture.proofs.Places.{Placed, placed}
@@ -48,13 +48,13 @@ module _ (o : Order) (file t₀ out₀ : List ℕ) where
     room = λ l. (omega arith, omega arith);
   }
 
-  module _ (is : is_known o ≡ true) (most : length file ≤ longest_file) (enough : text_room ≤ length out₀) {t out : List ℕ} {at records end : ℕ} {cut : Bool}
+  module _ (most : length file ≤ longest_file) (enough : text_room ≤ length out₀) {t out : List ℕ} {at records end : ℕ} {cut : Bool}
       (u : Underway t out at records end cut) where
     -- the file has ended
     pub all_done : length file ≤ at → IsReported (read_in (rest header_length) t₀ out₀) (record { reply = 0; length = end; records = records; cut = cut }) t out
     unfolding read_in
     all_done h =
-        let none = records_end o is file at h in
+        let none = records_end o file at h in
         let long : end ≡ length (lines_from 1 t₀ (rest header_length)) = omega (arith, rw none at u.long) in
         let count : records ≡ length (rest header_length) = omega (arith, rw none at u.count) in
         let ends : cut ≡ ends_cut false (rest header_length) = rw none at u.ends in
@@ -62,27 +62,27 @@ module _ (o : Order) (file t₀ out₀ : List ℕ) where
 
     module _ (some : at < length file) where
       abbrev here : Item
-      here = item_of file (record_at o file at)
+      here = item_of file (ordered_at o file at)
 
-      lies : Placed file at (record_at o file at)
-      lies = placed o is file at some
+      lies : Placed file at (ordered_at o file at)
+      lies = placed o file at some
 
       abbrev brought : ℕ
-      brought = (record_at o file at).next - (record_at o file at).message
+      brought = (ordered_at o file at).next - (ordered_at o file at).message
 
-      room_for : (end + 48 + 2 * brought ≤ length out) × (suc records < 10000)
+      room_for : (end + 50 + 2 * brought ≤ length out) × (suc records < 10000)
       room_for = (omega (arith, (u.room some).0, u.same, lies.beside, lies.within), omega (arith, (u.room some).1))
 
       short : length (line_for (suc records) (turn_of t here)) ≤ 31 + 2 * (brought - least_message)
-      short = line_short o is file t at (suc records) some room_for.1
+      short = line_short o file t at (suc records) some room_for.1
 
       goes_on : {next out₁ : List ℕ} {end₁ : ℕ} → IsTold (turn_of t here) (suc records) end out end₁ next out₁
-          → Underway next out₁ (record_at o file at).next (suc records) end₁ (eqb (record_at o file at).reply cut_short)
+          → Underway next out₁ (ordered_at o file at).next (suc records) end₁ (eqb (ordered_at o file at).reply cut_short)
       goes_on {next} {out₁} {end₁} w =
-          let after = (record_at o file at).next in
+          let after = (ordered_at o file at).next in
           let line = line_for (suc records) (turn_of t here) in
           let others = lines_from (suc (suc records)) (turn_of t here).table (rest after) in
-          let step = records_next o is file at some in
+          let step = records_next o file at some in
           let long : end + length (line ++ others) ≡ length (lines_from 1 t₀ (rest header_length)) = rw step at u.long in
           record {
             tables = ap (λ (x : List ℕ). table_after x (rest after)) w.leaves ∙ rw step at u.tables;
@@ -95,13 +95,12 @@ module _ (o : Order) (file t₀ out₀ : List ℕ) where
           }
 
       -- the same of a record that is known to stand there
-      module _ {r : Record} (e : r ≡ record_at o file at) where
+      module _ {r : Record} (e : r ≡ ordered_at o file at) where
         pub passes : at < r.next
         passes = rw e lies.further
 
-        pub may_take : ((r.source ≤ r.message) × (r.message ≤ r.next) × (r.next ≤ length file))
-            × ((records + 1 < 10000) × (r.reply < 100) × (end + 48 + 2 * (r.next - r.message) ≤ length out))
-        may_take = rw e ((lies.source_first, lies.message_next, lies.within), (omega (arith, room_for.1), lies.listed, room_for.0))
+        pub may_take : ((r.source ≤ r.message) × (r.message ≤ r.next) × (r.next ≤ length file)) × (end + 50 + 2 * (r.next - r.message) ≤ length out)
+        may_take = rw e ((lies.source_first, lies.message_next, lies.within), room_for.0)
 
         pub takes : {next out₁ : List ℕ} {end₁ : ℕ} → IsTold (turn_of t (item_of file r)) (records + 1) end out end₁ next out₁
             → Underway next out₁ r.next (records + 1) end₁ (eqb r.reply cut_short)

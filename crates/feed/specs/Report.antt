@@ -1,11 +1,13 @@
 -- A capture read on a table (02, No. 1): "Each readable record is an arrival, in file order", and "one line a record: `record=` (counted from
 -- 1), `answer=`, `payload=` in lower-case hex, empty unless the answer is 0, separated by one space".
-use Rattle.std.specs.Prelude.{◌≡◌, Bool, false, cond, List, [], ◌∷◌, ◌++◌, ℕ, suc, ◌+◌, eqb, ltb, length, take, replicate}
-use Rattle.answers.specs.Answers.{output_room, output_small, bad_capture, cut_short}
+use Rattle.std.specs.Prelude.{◌≡◌, Bool, false, cond, List, [], ◌∷◌, ◌++◌, ℕ, suc, ◌+◌, eqb, ltb, length, take, replicate, is_some, Result, Ok, Err}
+use Rattle.answers.specs.Answers.{output_room, output_small, bad_capture, cut_short, refusal_number}
+use Rattle.answers.specs.declared.Refusal.{Refusal}
 use Rattle.octets.specs.Octets.{put}
 use Rattle.text.specs.Text.{decimal_field, hex_line}
-use Rattle.capture.specs.Capture.{Item, is_known, order_of, records_from, header_length}
+use Rattle.capture.specs.Capture.{Item, order_of, records_of}
 use Rattle.gateway.specs.Receive.{Received, received}
+use Rattle.feed.specs.declared.Done.{Done}
 use Rattle.feed.specs.declared.Summary.{Summary}
 
 -- ---- a record
@@ -90,6 +92,11 @@ pub record IsReported (r : Reported) (answer : Summary) (table out : List ℕ) :
 abbrev pub refused : ℕ → Summary
 refused reply = record { reply = reply; length = 0; records = 0; cut = false }
 
+-- what C sees of an outcome: 0 and what was written, or the refusal's number
+abbrev pub summary_of : Result Done Refusal → Summary
+summary_of (Ok done) = record { reply = 0; length = done.length; records = done.records; cut = done.cut }
+summary_of (Err refusal) = refused (refusal_number refusal)
+
 -- some records are read: the text, how many they are, and whether the last is cut
 unfoldable pub read_in : List Item → List ℕ → List ℕ → Reported
 read_in rs t out = record {
@@ -102,4 +109,4 @@ read_in rs t out = record {
 unfoldable pub reported : List ℕ → List ℕ → List ℕ → Reported
 reported t file out =
     cond (ltb (length out) text_room) (record { answer = refused output_small; table = t; out = out })
-    (cond (is_known (order_of file)) (read_in (records_from (order_of file) file header_length) t out) (record { answer = refused bad_capture; table = t; out = out }))
+    (cond (is_some (order_of file)) (read_in (records_of file) t out) (record { answer = refused bad_capture; table = t; out = out }))

@@ -1,5 +1,5 @@
+pub mod Behind
 pub mod Chains
 pub mod Determined
-pub mod Halves
 pub mod Stretches
 pub mod Texts

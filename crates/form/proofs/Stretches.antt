@@ -1,30 +1,17 @@
 -- The stretches of a listing as readings in a row: each of four lines or of two, what an install settled of two stretches, what is by the arrivals of two,
 -- and the text of both.
 -- Assumes nothing.
-use mathlib.Core.Path.{◌≡◌, refl, subst}
-use mathlib.Core.List.{List, []}
+use mathlib.Core.Path.{◌≡◌, refl}
+use mathlib.Core.List.{List, [], ◌∷◌}
 use mathlib.Core.Option.{none, some}
-use Prim.Native.Nat.{ℕ, ◌≤◌}
-use native.Mathlib.Omega.{arith}
-use lib.ListN.{length, drop, drop_of_length-le}
-use lib.Seq.{drop-cons}
-use Rattle.octets.specs.Octets.{big_endian, same}
+use Prim.Native.Nat.{ℕ}
+use Rattle.octets.specs.Octets.{big_endian}
 use Rattle.text.specs.Reading.{Read, failed, got, read_decimal_line, read_hex_line, read_bytes_line, read_number_line}
-use Rattle.text.specs.Found.{FindsNumber, FindsSpan}
 use Rattle.window.specs.declared.Counters.{Counters}
 use Rattle.listing.specs.Listing.{slot_name, flag_name, key_id_name, source_name, suite_name, edition_name, size_name, start_name, highest_name, marks_name, accepted_name, bytes_name, replays_name, forged_name}
 use Rattle.form.specs.Form.{NamedValues, SettledValues, MovedValues, ArrivalValues, read_named, read_terms, read_settled, read_moved, read_counters, read_arrivals, listing_in}
-use Rattle.form.specs.declared.lines.TermLines.{TermLines}
+use Rattle.form.specs.declared.values.TermLines.{TermLines}
 use Rattle.form.proofs.Chains.{four, two}
-use Rattle.std.specs.Prelude.{Option}
-use Rattle.text.specs.declared.reading.Hex.{Hex}
-
--- what is found, by the case of the answer
-pub number_by : (text : List ℕ) (o : Read ℕ) {a b : Option (ℕ × ℕ)} → a ≡ b → FindsNumber text o a → FindsNumber text o b
-number_by text o e r = subst (λ (x : Option (ℕ × ℕ)). FindsNumber text o x) e r
-
-pub span_by : (text : List ℕ) (o : Read (List ℕ)) {a b : Option (Hex × ℕ)} → a ≡ b → FindsSpan text o a → FindsSpan text o b
-span_by text o e r = subst (λ (x : Option (Hex × ℕ)). FindsSpan text o x) e r
 
 -- ---- the lines
 
@@ -118,15 +105,6 @@ pub arrivals_two : (l : List ℕ) → read_arrivals l ≡ two read_moved read_co
 unfolding read_arrivals
 arrivals_two l = refl
 
--- none in a text that has ended
-pub named_past : (text : List ℕ) (at : ℕ) → length text ≤ at → read_named (drop at text) ≡ failed
-unfolding read_named read_decimal_line same
-named_past text at h = rw (drop_of_length-le text {i = at} h)
-
-pub moved_past : (text : List ℕ) (at : ℕ) → length text ≤ at → read_moved (drop at text) ≡ failed
-unfolding read_moved read_number_line read_bytes_line read_hex_line same
-moved_past text at h = rw (drop_of_length-le text {i = at} h)
-
 -- ---- the text
 
 module _ (text : List ℕ) where
@@ -143,10 +121,7 @@ module _ (text : List ℕ) where
     unfolding listing_in
     text_read f = rw (e, f)
 
-    module _ {a : ArrivalValues} (end : ℕ) (f : read_arrivals l ≡ got a (drop end text)) where
-      pub more_behind : end ≤ length text → (end ≡ length text → ⊥) → listing_in text ≡ none
-      unfolding listing_in
-      more_behind h other = rw (e, f, drop-cons text end 0 (omega arith))
-
-      pub all_read : length text ≤ end → listing_in text ≡ some (record { settled = v; arrivals = a })
-      all_read h = text_read (rw (drop_of_length-le text {i = end} h) at f)
+    pub more_behind : (a : ArrivalValues) (m : List ℕ) → read_arrivals l ≡ got a m → (m ≡ [] → ⊥) → listing_in text ≡ none
+    unfolding listing_in
+    more_behind a [] f some_left = absurd (some_left refl)
+    more_behind a (c ∷ m) f some_left = rw (e, f)

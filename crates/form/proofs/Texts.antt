@@ -15,7 +15,7 @@ use Rattle.text.proofs.ReadPrinted.{got_value, through, hex_line_back, decimal_l
 use Rattle.window.specs.declared.Counters.{Counters}
 use Rattle.listing.specs.Listing.{slot_name, flag_name, key_id_name, source_name, suite_name, edition_name, size_name, start_name, highest_name, marks_name, accepted_name, bytes_name, replays_name, forged_name}
 use Rattle.form.specs.Form.{NamedValues, SettledValues, MovedValues, ArrivalValues, Listing, read_named, read_terms, read_settled, read_moved, read_counters, read_arrivals, at_end, listing_in}
-use Rattle.form.specs.declared.lines.TermLines.{TermLines}
+use Rattle.form.specs.declared.values.TermLines.{TermLines}
 use Rattle.form.proofs.Chains.{two, Line, Reads, Prints, four_reads, four_was, two_reads, two_got, two_was}
 use Rattle.form.proofs.Stretches.{named_of, terms_of, moved_of, counters_from, settled_from, arrivals_from, named_four, terms_four, moved_four, counters_two, settled_two, arrivals_two, text_read}
 
@@ -196,12 +196,12 @@ counters_print text c rest e =
     let q = two_was (decimal replays_name) (decimal forged_name) counters_from (decimal_prints replays_name) (decimal_prints forged_name) text c rest (sym (counters_two text) ∙ e) in
     subst (λ (u : Counters). text ≡ counter_text u ++ rest) q.0.made q.1
 
-settled_print : Prints settled_lines
+pub settled_print : Prints settled_lines
 settled_print text v rest e =
     let q = two_was named_stretch term_stretch settled_from named_print terms_print text v rest (sym (settled_two text) ∙ e) in
     subst (λ (u : SettledValues). text ≡ settled_text u ++ rest) q.0.made q.1
 
-arrivals_print : Prints arrival_lines
+pub arrivals_print : Prints arrival_lines
 arrivals_print text v rest e =
     let q = two_was moved_stretch counter_stretch arrivals_from moved_print counters_print text v rest (sym (arrivals_two text) ∙ e) in
     subst (λ (u : ArrivalValues). text ≡ arrival_text u ++ rest) q.0.made q.1

@@ -8,7 +8,7 @@ use Rattle.octets.specs.Octets.{big_endian}
 use Rattle.text.specs.Reading.{Read, failed, got, and_then, read_decimal_line, read_hex_line, read_bytes_line, read_number_line}
 use Rattle.window.specs.declared.Counters.{Counters}
 use Rattle.listing.specs.Listing.{slot_name, flag_name, key_id_name, source_name, suite_name, edition_name, size_name, start_name, highest_name, marks_name, accepted_name, bytes_name, replays_name, forged_name}
-use Rattle.form.specs.declared.lines.TermLines.{TermLines}
+use Rattle.form.specs.declared.values.TermLines.{TermLines}
 
 -- which entry it is
 pub record NamedValues : Type 0 where

@@ -1,11 +1,10 @@
 -- Sound key data as facts: both ways between the test and the facts, and what makes it fail.
 -- Assumes nothing.
 use mathlib.Core.Path.{◌≡◌}
-use mathlib.Core.Bool.{Bool, true, false, ◌&&◌, not, and-false}
+use mathlib.Core.Bool.{true, false, ◌&&◌, not}
 use mathlib.Core.List.{List}
 use Prim.Native.Nat.{ℕ, ◌≤◌}
-use native.Mathlib.Omega.{arith}
-use borrow.Author.Tests.{leb-true, le-leb, eqb-true, eq-eqb, ne_eqb}
+use borrow.Author.Tests.{leb-true, le-leb, eqb-true, eq-eqb}
 use lib.Dec.{eqb}
 use lib.ListN.{length, get_or}
 use Rattle.numbers.proofs.Tests.{and_left, and_right, and_both, refuted}
@@ -30,16 +29,6 @@ pub key_data_is : {flag flag' : ℕ} {key_id key_id' source source' : List ℕ} 
     → ◌≡◌ {A = KeyData} (record { flag = flag; key_id = key_id; source = source; suite = suite; edition = edition; key = key })
     (record { flag = flag'; key_id = key_id'; source = source'; suite = suite'; edition = edition'; key = key' })
 key_data_is a b c d e f = rw (a, b, c, d, e, f)
-
--- flag 0 does not go with the first byte 80: by another flag, by another byte, or not at all
-pub by_flag : (flag first : ℕ) → (flag ≡ 0 → ⊥) → not (eqb flag 0 && eqb first 0x80) ≡ true
-by_flag flag first h = rw (ne_eqb flag 0 h)
-
-pub by_first : (flag first : ℕ) → (first ≡ 0x80 → ⊥) → not (eqb flag 0 && eqb first 0x80) ≡ true
-by_first flag first h = rw (ne_eqb first 0x80 h, and-false)
-
-pub by_neither : (flag first : ℕ) → flag ≡ 0 → first ≡ 0x80 → not (eqb flag 0 && eqb first 0x80) ≡ true → ⊥
-by_neither flag first p q e = let z : ◌≡◌ {A = Bool} false true = rw (eq-eqb flag 0 p, eq-eqb first 0x80 q) at e in let o : ◌≡◌ {A = ℕ} 0 1 = cc in omega arith
 
 module _ (k : KeyData) where
   pub sound_facts : sound_of k ≡ true → Sound k

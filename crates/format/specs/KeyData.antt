@@ -4,7 +4,6 @@
 use Rattle.std.specs.Prelude.{Bool, ◌&&◌, ◌||◌, not, List, ℕ, eqb, leb, length, get_or, is_some}
 use Rattle.format.specs.KeyId.{length_asked}
 use Rattle.format.specs.Suite.{suite_of}
-use Rattle.format.specs.declared.key_data.Terms.{Terms}
 
 -- "An entry has: flag, KeyId bytes, SourceIdentifier, suite, 32-byte base key, .. A sender's record has the first five": these five, and an edition
 pub record KeyData : Type 0 where
@@ -19,10 +18,6 @@ pub record KeyData : Type 0 where
 abbrev pub handed_in : ℕ → List ℕ → List ℕ → ℕ → ℕ → List ℕ → KeyData
 handed_in flag key_id source suite edition key =
     record { flag = flag; key_id = key_id; source = source; suite = suite; edition = edition; key = key }
-
--- key data whose numbers stand together in a program, with its bytes lent
-abbrev pub keyed : Terms → List ℕ → List ℕ → List ℕ → KeyData
-keyed terms key_id source key = handed_in terms.flag key_id source terms.suite terms.edition key
 
 -- "an edition, 1 for these and 2 for the rule in 01. Edition 1 is sound only with suite 1."
 abbrev pub goes_with : ℕ → ℕ → Bool

@@ -1,8 +1,9 @@
 // The header of a message, read and written.
-ghost use Rattle.std.specs.Prelude.{◌≡◌, ◌+◌, ◌<◌, ◌≤◌, length};
-ghost use Rattle.octets.specs.Octets.{put};
+ghost use Rattle.std.specs.Prelude.{◌≡◌, ◌+◌, ◌<◌, ◌≤◌, length, take, drop, Ok};
+ghost use Rattle.octets.specs.Octets.{big_endian, put};
 ghost use Rattle.answers.specs.Answers.{refusal_number};
-ghost use Rattle.format.specs.Header.{read_of, refusal_of, header_bytes, fixed_bytes};
+ghost use Rattle.format.specs.Suite.{icv_length_of};
+ghost use Rattle.format.specs.Header.{read_of, refusal_of, header_bytes, fixed_bytes, key_id_bytes, end_of, payload_in, payload_length};
 
 use crate::key_id::KeyId;
 use crate::suite::Suite;
@@ -41,6 +42,59 @@ pub enum HeaderError {
     BadVersion,
     BadSuite,
     TooShort,
+}
+
+// A message with the header that was read from its bytes.
+#[derive(Clone, Copy)]
+pub struct Message<'a> {
+    pub header: Header,
+    pub bytes: &'a [u8],
+    pub ghost read: { read_of bytes.now ≡ Ok header },
+}
+
+impl<'a> Message<'a> {
+    // The bytes of its KeyId.
+    pub fn keyid(&self) -> &'a [u8]
+        ensures { result.now ≡ key_id_bytes self.now.header self.now.bytes.now }
+    {
+        let keyid = self.header.keyid;
+        let bytes = self.bytes;
+        &bytes[KEYID_AT..KEYID_AT + keyid.length()]
+    }
+
+    // What its ICV covers: all that stands before it.
+    pub fn covered(&self) -> &'a [u8]
+        ensures { result.now ≡ take (end_of self.now.header self.now.bytes.now) self.now.bytes.now }
+    {
+        let bytes = self.bytes;
+        &bytes[..self.end()]
+    }
+
+    // Its ICV, as a number.
+    pub fn icv(&self) -> u64
+        ensures { result ≡ big_endian (icv_length_of self.now.header.suite) (drop (end_of self.now.header self.now.bytes.now) self.now.bytes.now) }
+    {
+        let suite = self.header.suite;
+        octets::read(self.bytes, self.end(), suite.icv_length())
+    }
+
+    // Its payload, enciphered or not.
+    pub fn payload(&self) -> &'a [u8]
+        ensures value { result.now ≡ payload_in self.now.header self.now.bytes.now }
+        ensures long { length result.now ≡ payload_length self.now.header self.now.bytes.now }
+    {
+        let keyid = self.header.keyid;
+        let bytes = self.bytes;
+        &bytes[FIXED + keyid.length()..self.end()]
+    }
+
+    // Where the ICV begins.
+    fn end(&self) -> usize
+        ensures { result ≡ end_of self.now.header self.now.bytes.now }
+    {
+        let suite = self.header.suite;
+        self.bytes.len() - suite.icv_length()
+    }
 }
 
 // The header of a message, whatever its bytes.

@@ -1,9 +1,12 @@
-// Whether key data is sound.
-ghost use Rattle.std.specs.Prelude.{◌≡◌};
-ghost use Rattle.format.specs.KeyData.{keyed, goes_with, sound_of};
+// Key data, and whether it is sound.
+ghost use Rattle.std.specs.Prelude.{◌≡◌, ◌≤◌, eqb, length, get_or};
+ghost use Rattle.std.specs.Bool.{OnTrue};
+ghost use Rattle.format.specs.KeyId.{length_asked};
+ghost use Rattle.format.specs.KeyData.{goes_with, sound_of};
 
 use crate::key_id::KeyId;
 use crate::suite::Suite;
+use std::marker::Model;
 
 // Bytes of the longest KeyId, of the shortest and of the longest SourceIdentifier, and of a base key.
 pub const GREATEST_KEYID: usize = 128;
@@ -22,52 +25,60 @@ pub const LSB: u8 = 1;
 
 pub const MSB: u8 = 2;
 
-// The numbers of key data: ExternalKeyIdFlag, the suite's number and the edition. Its bytes are lent beside them.
-#[repr(C)]
-#[derive(Clone, Copy)]
-pub struct Terms {
+/// Key data, its bytes lent: an unsound one too.
+#[derive(Drop)]
+pub struct KeyData<'a> {
     pub flag: u8,
+    pub keyid: &'a [u8],
+    pub source: &'a [u8],
     pub suite: u8,
     pub edition: u8,
+    pub key: &'a [u8],
 }
 
-// Flag, KeyId, SourceIdentifier, suite number, edition and base key together.
-pub fn sound(terms: Terms, keyid: &[u8], source: &[u8], key: &[u8]) -> bool
-    ensures { result ≡ sound_of (keyed terms keyid.now source.now key.now) }
+impl<'a> Model for KeyData<'a> {
+    ghost use Rattle.format.specs.KeyData.{KeyData, handed_in};
+
+    ghost Value = { KeyData };
+
+    ghost view = { λ k. handed_in k.flag k.keyid.now k.source.now k.suite k.edition k.key.now };
+}
+
+impl<'a> KeyData<'a> {
+    /// Whether its parts are sound, each by itself and together.
+    #[tactic(auto, unfolding(crate::specs::KeyData::sound_of))]
+    pub fn is_sound(&self) -> bool
+        ensures answers { result ≡ sound_of self.now }
+        ensures room { OnTrue result (length self.now.key_id ≤ 128) }
+    {
+        self.flag <= 1
+            && is_whole(self.keyid)
+            && LEAST_SOURCE <= self.source.len()
+            && self.source.len() <= GREATEST_SOURCE
+            && self.key.len() == KEY
+            && Suite::numbered(self.suite).is_some()
+            && goes_with(self.edition, self.suite)
+            && !(self.flag == 0 && is_absent(self.keyid))
+    }
+}
+
+// Whether a KeyId has as many bytes as its first one asks.
+#[tactic(auto, using(crate::proofs::KeyIds::length_most))]
+fn is_whole(keyid: &[u8]) -> bool
+    ensures answers { result ≡ eqb (length keyid.now) (length_asked (get_or keyid.now 0 0)) }
+    ensures room { OnTrue result (length keyid.now ≤ 128) }
 {
-    if 1 < terms.flag {
+    let Some(first) = keyid.first() else {
         return false;
-    }
-    if keyid.len() == 0 {
-        return false;
-    }
-    let first = keyid[0];
-    let kind = KeyId::starting(first, 0);
-    if keyid.len() != kind.length() {
-        return false;
-    }
-    if source.len() < LEAST_SOURCE {
-        return false;
-    }
-    if GREATEST_SOURCE < source.len() {
-        return false;
-    }
-    if key.len() != KEY {
-        return false;
-    }
-    if Suite::numbered(terms.suite).is_none() {
-        return false;
-    }
-    if !goes_with(terms.edition, terms.suite) {
-        return false;
-    }
-    if terms.flag != 0 {
-        return true;
-    }
-    if first == ABSENT {
-        return false;
-    }
-    true
+    };
+    keyid.len() == KeyId::starting(*first, 0).length()
+}
+
+// Whether it is the one that says that there is none.
+fn is_absent(keyid: &[u8]) -> bool
+    ensures { result ≡ eqb (get_or keyid.now 0 0) 128 }
+{
+    keyid.first() == Some(&ABSENT)
 }
 
 // Whether there is that edition, and it goes with the suite of that number.

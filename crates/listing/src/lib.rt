@@ -1,16 +1,14 @@
 // The listing of an entry as text.
 #![tactic(auto)]
 
-ghost use Rattle.std.specs.Prelude.{true, ◌≡◌, ◌+◌, ◌≤◌, length};
+ghost use Rattle.std.specs.Prelude.{◌≡◌, ◌+◌, ◌≤◌, length};
 ghost use Rattle.octets.specs.Octets.{put};
 ghost use Rattle.answers.specs.Answers.{answer_of, output_room};
-ghost use Rattle.slots.specs.Table.{slot_length};
-ghost use Rattle.slots.specs.Record.{undamaged};
+ghost use Rattle.slots.specs.Table.{slot_length, source_length_of, source_room};
 ghost use Rattle.listing.specs.Listing.{named_lines, term_lines, moved_lines, counter_lines, listing_of, IsListed, listed};
 
 use answers::{Answer, Done, Refusal};
 use slots::index::SlotIndex;
-use slots::layout;
 use slots::layout::TABLE;
 use slots::record::Slot;
 
@@ -40,15 +38,17 @@ fn list_in(table: &[u8; TABLE], slot: usize, out: &mut [u8]) -> Result<Done, Ref
         return Err(Refusal::Damaged);
     }
     Ok(Done {
-        length: write_lines(slot, held.content(), out),
+        length: write_lines(slot, &held, out),
         slot,
         seqnum: 0,
     })
 }
 
 // The lines of an entry. Answers where they end.
-fn write_lines(i: usize, slot: &[u8], out: &mut [u8]) -> usize
-    requires { (length slot.now ≡ slot_length) × (undamaged slot.now ≡ true) × (output_room ≤ length out.old) }
+fn write_lines(i: usize, slot: &Slot<'_>, out: &mut [u8]) -> usize
+    requires whole { length slot.now ≡ slot_length }
+    requires source_fits { source_length_of slot.now ≤ source_room }
+    requires room { output_room ≤ length out.old }
     ensures value { result ≡ length (listing_of i slot.now) }
     ensures out_after { out.new ≡ put out.old 0 (listing_of i slot.now) }
 {
@@ -59,59 +59,56 @@ fn write_lines(i: usize, slot: &[u8], out: &mut [u8]) -> usize
 }
 
 // The lines that say which entry it is. Answers where they end.
-fn write_named(i: usize, slot: &[u8], out: &mut [u8]) -> usize
-    requires { (length slot.now ≡ slot_length) × (undamaged slot.now ≡ true) × (output_room ≤ length out.old) }
-    ensures value { (result ≡ length (named_lines i slot.now)) × (result ≤ 600) }
+fn write_named(i: usize, slot: &Slot<'_>, out: &mut [u8]) -> usize
+    requires whole { length slot.now ≡ slot_length }
+    requires source_fits { source_length_of slot.now ≤ source_room }
+    requires room { output_room ≤ length out.old }
+    ensures value { (result ≡ length (named_lines i slot.now)) × (result ≤ 700) }
     ensures out_after { out.new ≡ put out.old 0 (named_lines i slot.now) }
 {
-    let keyid_end = layout::KEYID + (slot[layout::KEYID_LENGTH] as usize);
-    let source_end = layout::SOURCE + (slot[layout::SOURCE_LENGTH] as usize);
+    let flag = slot.flag();
     let a = text::write_decimal_line(b"slot=", i as u64, out, 0);
-    let b = text::write_decimal_line(b"flag=", slot[layout::FLAG] as u64, out, a);
-    let c = text::write_hex_line(b"keyid=", &slot[layout::KEYID..keyid_end], out, b);
-    text::write_hex_line(b"source=", &slot[layout::SOURCE..source_end], out, c)
+    let b = text::write_decimal_line(b"flag=", flag as u64, out, a);
+    let c = text::write_hex_line(b"keyid=", slot.keyid(), out, b);
+    text::write_hex_line(b"source=", slot.source(), out, c)
 }
 
 // The other lines that an install settled, from `at` on. Answers where they end.
-fn write_terms(slot: &[u8], out: &mut [u8], at: usize) -> usize
-    requires { (length slot.now ≡ slot_length) × (at ≤ 600) × (output_room ≤ length out.old) }
-    ensures value { (result ≡ at + length (term_lines slot.now)) × (result ≤ 780) }
+fn write_terms(slot: &Slot<'_>, out: &mut [u8], at: usize) -> usize
+    requires { (at ≤ 700) × (output_room ≤ length out.old) }
+    ensures value { (result ≡ at + length (term_lines slot.now)) × (result ≤ 820) }
     ensures out_after { out.new ≡ put out.old at (term_lines slot.now) }
 {
-    let a = text::write_decimal_line(b"suite=", slot[layout::SUITE] as u64, out, at);
-    let b = text::write_decimal_line(b"edition=", slot[layout::EDITION] as u64, out, a);
-    let c = text::write_decimal_line(b"size=", octets::read(slot, layout::SIZE, 8), out, b);
-    text::write_decimal_line(b"start=", octets::read(slot, layout::START, 8), out, c)
+    let suite = slot.suite();
+    let edition = slot.edition();
+    let frame = slot.frame();
+    let a = text::write_decimal_line(b"suite=", suite as u64, out, at);
+    let b = text::write_decimal_line(b"edition=", edition as u64, out, a);
+    let c = text::write_decimal_line(b"size=", frame.size, out, b);
+    text::write_decimal_line(b"start=", frame.start, out, c)
 }
 
 // The lines that the accepted messages moved, from `at` on. Answers where they end.
-fn write_moved(slot: &[u8], out: &mut [u8], at: usize) -> usize
-    requires { (length slot.now ≡ slot_length) × (at ≤ 780) × (output_room ≤ length out.old) }
+fn write_moved(slot: &Slot<'_>, out: &mut [u8], at: usize) -> usize
+    requires { (at ≤ 820) × (output_room ≤ length out.old) }
     ensures value { (result ≡ at + length (moved_lines slot.now)) × (result ≤ 1000) }
     ensures out_after { out.new ≡ put out.old at (moved_lines slot.now) }
 {
-    let a = text::write_hex_line(
-        b"highest=",
-        &slot[layout::HIGHEST + 2..layout::MARKS],
-        out,
-        at,
-    );
-    let b = text::write_hex_line(b"marks=", &slot[layout::MARKS..layout::ACCEPTED], out, a);
-    let c = text::write_decimal_line(
-        b"accepted=",
-        octets::read(slot, layout::ACCEPTED, 8),
-        out,
-        b,
-    );
-    text::write_decimal_line(b"bytes=", octets::read(slot, layout::BYTES, 8), out, c)
+    let highest = slot.highest_bytes();
+    let marks = slot.marks_bytes();
+    let a = text::write_hex_line(b"highest=", highest, out, at);
+    let b = text::write_hex_line(b"marks=", marks, out, a);
+    let c = text::write_decimal_line(b"accepted=", slot.accepted(), out, b);
+    text::write_decimal_line(b"bytes=", slot.bytes(), out, c)
 }
 
 // The lines of what was turned away, from `at` on. Answers where they end.
-fn write_counters(slot: &[u8], out: &mut [u8], at: usize) -> usize
-    requires { (length slot.now ≡ slot_length) × (at ≤ 1000) × (output_room ≤ length out.old) }
+fn write_counters(slot: &Slot<'_>, out: &mut [u8], at: usize) -> usize
+    requires { (at ≤ 1000) × (output_room ≤ length out.old) }
     ensures value { result ≡ at + length (counter_lines slot.now) }
     ensures out_after { out.new ≡ put out.old at (counter_lines slot.now) }
 {
-    let a = text::write_decimal_line(b"replays=", octets::read(slot, layout::REPLAYS, 8), out, at);
-    text::write_decimal_line(b"forged=", octets::read(slot, layout::FORGED, 8), out, a)
+    let counters = slot.counters();
+    let a = text::write_decimal_line(b"replays=", counters.replays, out, at);
+    text::write_decimal_line(b"forged=", counters.forged, out, a)
 }

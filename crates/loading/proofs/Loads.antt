@@ -1,29 +1,21 @@
 -- What a load comes to: each refusal by its own test, and the entry that takes window, totals and counters.
 -- Assumes nothing.
-use mathlib.Core.Path.{◌≡◌, refl}
+use mathlib.Core.Path.{◌≡◌, refl, sym, ap, ◌∙◌}
 use mathlib.Core.Bool.{true, false, and-false}
-use mathlib.Core.List.{List}
+use mathlib.Core.List.{List, []}
 use mathlib.Core.Option.{none, some}
 use Prim.Native.Nat.{ℕ, ◌≤◌, ◌<◌}
 use borrow.Author.Tests.{lt-ltb, le-ltb}
-use lib.ListN.{length}
 use Rattle.answers.specs.Answers.{refused, bad_text, not_standing, would_be_damaged}
 use Rattle.answers.specs.declared.Answer.{Answer}
 use Rattle.format.specs.KeyData.{sound_of}
 use Rattle.window.specs.Entry.{undamaged_entry}
-use Rattle.window.specs.declared.Counters.{Counters}
 use Rattle.slots.specs.Table.{slot_of, key_data_of, restored, slot_count}
 use Rattle.entries.specs.Install.{IsLeft, done_at}
-use Rattle.form.specs.Form.{Listing, listing_in}
-use Rattle.form.specs.Found.{LinesFound}
-use Rattle.form.specs.declared.lines.NamedLines.{NamedLines}
-use Rattle.form.specs.declared.lines.TermLines.{TermLines}
-use Rattle.form.specs.declared.lines.MovedLines.{MovedLines}
-use Rattle.form.specs.declared.reader.Lines.{Lines}
-use Rattle.form.proofs.Halves.{first_is, second_is}
-use Rattle.form.proofs.Stretches.{more_behind}
+use Rattle.text.specs.Reading.{failed, got}
+use Rattle.form.specs.Form.{SettledValues, ArrivalValues, Listing, read_settled, read_arrivals, listing_in}
+use Rattle.form.proofs.Stretches.{no_settled, no_arrivals, text_read, more_behind}
 use Rattle.loading.specs.Load.{stands, listed_entry, taken_up, loaded}
-use Rattle.std.specs.Prelude.{Some}
 
 -- ---- in the table
 
@@ -71,11 +63,18 @@ module _ (t text : List ℕ) where
   unfolding loaded
   is_read e = rw e
 
-  -- lines that are all in their form, with more behind them, from what the reader found and the code has tested
-  pub more_refused : {r : Lines} {named : NamedLines} {terms : TermLines} {moved : MovedLines} {counters : Counters} {next end : ℕ} {a : Answer}
-      → LinesFound text r → r.settled ≡ Some (named, terms, next) → r.arrivals ≡ Some (moved, counters, end)
-      → (end ≡ length text → ⊥) → a ≡ refused bad_text → IsLeft (loaded t text) a t
-  more_refused {r} {named} {terms} {moved} {counters} {next} {end} found first second other e =
-      let head = first_is text r found named terms next first in
-      let tail = second_is text r found named terms next first moved counters end second in
-      not_read (more_behind text head.0 end tail.0 tail.1 other) e
+  -- from what the reader has found: each stretch that is not there, more behind both, and nothing
+  module _ {start : List ℕ} (same : start ≡ text) where
+    pub first_refused : {r : Answer} → failed ≡ read_settled start → r ≡ refused bad_text → IsLeft (loaded t text) r t
+    first_refused e f = not_read (no_settled text (rw same at (sym e))) f
+
+    module _ {v : SettledValues} {l : List ℕ} (e : got v l ≡ read_settled start) where
+      pub second_refused : {r : Answer} → failed ≡ read_arrivals l → r ≡ refused bad_text → IsLeft (loaded t text) r t
+      second_refused f g = not_read (no_arrivals text (rw same at (sym e)) (sym f)) g
+
+      module _ {a : ArrivalValues} {m : List ℕ} (f : got a m ≡ read_arrivals l) where
+        pub more_refused : {r : Answer} → (m ≡ [] → ⊥) → r ≡ refused bad_text → IsLeft (loaded t text) r t
+        more_refused some_left g = not_read (more_behind text (rw same at (sym e)) a m (sym f) some_left) g
+
+        pub all_taken : m ≡ [] → loaded t text ≡ taken_up t (record { settled = v; arrivals = a })
+        all_taken none_left = is_read (text_read text (rw same at (sym e)) (sym f ∙ ap (λ (n : List ℕ). got a n) none_left))

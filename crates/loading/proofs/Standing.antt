@@ -14,7 +14,7 @@ use Rattle.lookup.specs.Lookup.{matches}
 use Rattle.lookup.proofs.Matching.{Alike, same_test, match_facts, own_source_decides, match_test}
 use Rattle.form.specs.Form.{NamedValues, SettledValues}
 use Rattle.loading.specs.Load.{named_so, terms_so, stands}
-use Rattle.form.specs.declared.lines.TermLines.{TermLines}
+use Rattle.form.specs.declared.values.TermLines.{TermLines}
 
 -- flag, KeyId and source
 pub record NamedAlike (v : NamedValues) (s : List ℕ) : Type 0 where

@@ -13,7 +13,7 @@ use Rattle.slots.specs.Table.{slot_of, cs_of, edition_of, source_of, key_data_of
 use Rattle.lookup.specs.Lookup.{matches}
 use Rattle.entries.specs.Install.{Left, done_at}
 use Rattle.form.specs.Form.{NamedValues, SettledValues, Listing, listing_in}
-use Rattle.form.specs.declared.lines.TermLines.{TermLines}
+use Rattle.form.specs.declared.values.TermLines.{TermLines}
 
 -- ---- no such entry with accepted 0
 

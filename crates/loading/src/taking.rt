@@ -2,88 +2,85 @@
 ghost use Rattle.std.specs.Prelude.{◌≡◌};
 ghost use Rattle.answers.specs.Answers.{answer_of};
 ghost use Rattle.octets.specs.Octets.{big_endian};
-ghost use Rattle.text.specs.Found.{bytes_in};
 ghost use Rattle.window.specs.Window.{view_of};
 ghost use Rattle.entries.specs.Install.{IsLeft};
-ghost use Rattle.form.specs.Found.{named_values, settled_values, arrival_values, NamedWithin, MovedWithin};
+ghost use Rattle.form.specs.Found.{named_values, settled_values, arrival_values};
 ghost use Rattle.loading.specs.Load.{named_so, terms_so, stands, taken_up, loaded};
 
 use answers::{Done, Refusal};
-use form::lines::{MovedLines, NamedLines, TermLines};
-use form::reader;
+use form::reader::Reader;
+use form::values::{ArrivalLines, MovedLines, NamedLines, SettledLines, TermLines};
 use slots::index::SlotIndex;
 use slots::layout::TABLE;
 use slots::record;
 use slots::record::Slot;
-use text::reading;
-use window::{Counters, Frame, Window};
+use window::{Entry, Frame, Window};
 
 // A text that is not in its form is refused with 21; else its entry is looked for.
 pub(crate) fn load_in(table: &mut [u8; TABLE], text: &[u8]) -> Result<Done, Refusal>
     ensures { IsLeft (loaded table.old text.now) (answer_of result) table.new }
 {
-    let lines = reader::read(text);
-    let Some((named, terms, _)) = lines.settled else {
+    let mut reader = Reader::new(text);
+    let Some(settled) = reader.settled() else {
         return Err(Refusal::BadText);
     };
-    let Some((moved, counters, end)) = lines.arrivals else {
+    let Some(arrivals) = reader.arrivals() else {
         return Err(Refusal::BadText);
     };
-    if end != text.len() {
+    if !reader.is_at_end() {
         return Err(Refusal::BadText);
     }
-    take_up(table, text, named, terms, moved, counters)
+    take_up(table, &settled, &arrivals)
 }
 
 // Where no such entry stands, 22, and where it would be damaged, 23; else it takes the listed window, totals and counters.
 fn take_up(
     table: &mut [u8; TABLE],
-    text: &[u8],
-    named: NamedLines,
-    terms: TermLines,
-    moved: MovedLines,
-    counters: Counters,
+    settled: &SettledLines<'_>,
+    arrivals: &ArrivalLines<'_>,
 ) -> Result<Done, Refusal>
-    requires named_in_text { NamedWithin text.now named }
-    requires moved_in_text { MovedWithin text.now moved }
-    ensures { IsLeft (taken_up table.old (record { settled = settled_values text.now named terms; arrivals = arrival_values text.now moved counters })) (answer_of result) table.new }
+    ensures { IsLeft (taken_up table.old (record { settled = settled_values settled.now; arrivals = arrival_values arrivals.now })) (answer_of result) table.new }
 {
-    let Some(slot) = SlotIndex::new(named.slot as usize) else {
+    let Some(slot) = SlotIndex::new(settled.named.slot as usize) else {
         return Err(Refusal::NotStanding);
     };
     let held = Slot::at(table, slot);
-    if !stands(&held, text, named, terms) {
+    if !stands(&held, settled) {
         return Err(Refusal::NotStanding);
     }
     if !held.is_sound() {
         return Err(Refusal::WouldBeDamaged);
     }
-    let window = listed_window(text, terms.frame, moved);
-    if !window::undamaged_entry(window, moved.accepted, moved.bytes, counters) {
+    let moved = &arrivals.moved;
+    let entry = Entry {
+        window: listed_window(settled.terms.frame, moved),
+        accepted: moved.accepted,
+        bytes: moved.bytes,
+        counters: arrivals.counters,
+    };
+    if !entry.is_undamaged() {
         return Err(Refusal::WouldBeDamaged);
     }
-    record::restore(table, slot, window, moved.accepted, moved.bytes, counters);
+    record::restore(table, slot, &entry);
     Ok(Done::at(slot.number))
 }
 
 // Whether the listed entry stands in a slot with accepted 0.
-fn stands(slot: &Slot<'_>, text: &[u8], named: NamedLines, terms: TermLines) -> bool
-    requires { NamedWithin text.now named }
-    ensures { result ≡ stands (settled_values text.now named terms) slot.now }
+fn stands(slot: &Slot<'_>, settled: &SettledLines<'_>) -> bool
+    ensures { result ≡ stands (settled_values settled.now) slot.now }
 {
-    if !named_so(slot, text, named) {
+    if !named_so(slot, &settled.named) {
         return false;
     }
-    if !terms_so(slot, terms) {
+    if !terms_so(slot, settled.terms) {
         return false;
     }
     slot.accepted() == 0
 }
 
 // Whether the entry in a slot has the listed flag, KeyId and source.
-fn named_so(slot: &Slot<'_>, text: &[u8], named: NamedLines) -> bool
-    requires { NamedWithin text.now named }
-    ensures { result ≡ named_so (named_values text.now named) slot.now }
+fn named_so(slot: &Slot<'_>, named: &NamedLines<'_>) -> bool
+    ensures { result ≡ named_so (named_values named.now) slot.now }
 {
     if !slot.is_occupied() {
         return false;
@@ -91,25 +88,23 @@ fn named_so(slot: &Slot<'_>, text: &[u8], named: NamedLines) -> bool
     if !slot.has_room() {
         return false;
     }
-    if octets::wide(slot.flag()) != named.flag {
+    if u64::from(slot.flag()) != named.flag {
         return false;
     }
-    let keyid = named.keyid;
-    if !reading::same_hex(text, keyid.at, keyid.count, slot.keyid()) {
+    if !named.keyid.is(slot.keyid()) {
         return false;
     }
-    let source = named.source;
-    reading::same_hex(text, source.at, source.count, slot.source())
+    named.source.is(slot.source())
 }
 
 // Whether it has the listed suite, edition, size and start.
 fn terms_so(slot: &Slot<'_>, terms: TermLines) -> bool
     ensures { result ≡ terms_so terms slot.now }
 {
-    if octets::wide(slot.suite()) != terms.suite {
+    if u64::from(slot.suite()) != terms.suite {
         return false;
     }
-    if octets::wide(slot.edition()) != terms.edition {
+    if u64::from(slot.edition()) != terms.edition {
         return false;
     }
     let held = slot.frame();
@@ -121,20 +116,18 @@ fn terms_so(slot: &Slot<'_>, terms: TermLines) -> bool
 }
 
 // The listed window: the marks are four words, the lowest last in the text.
-fn listed_window(text: &[u8], frame: Frame, moved: MovedLines) -> Window
-    requires { MovedWithin text.now moved }
-    ensures { view_of result ≡ record { frame = frame; highest = moved.highest; marks = big_endian 32 (bytes_in text.now moved.marks) } }
+fn listed_window(frame: Frame, moved: &MovedLines<'_>) -> Window
+    ensures { view_of result ≡ record { frame = frame; highest = moved.now.highest; marks = big_endian 32 moved.now.marks } }
 {
-    let marks = moved.marks;
-    let at = marks.at;
+    let marks = &moved.marks;
     Window {
-        frame: frame,
+        frame,
         highest: moved.highest,
         marks: [
-            reading::hex_number(text, at + 48, 8),
-            reading::hex_number(text, at + 32, 8),
-            reading::hex_number(text, at + 16, 8),
-            reading::hex_number(text, at, 8),
+            marks.part(24, 8).number(),
+            marks.part(16, 8).number(),
+            marks.part(8, 8).number(),
+            marks.part(0, 8).number(),
         ],
     }
 }

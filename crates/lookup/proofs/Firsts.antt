@@ -1,4 +1,4 @@
--- The lowest slot that passes a test: a turn and the ends of a loop that looks for it, and what the answer says.
+-- The lowest slot that passes a test: a turn of a loop that looks for it, and what the answer says.
 -- Assumes nothing.
 use mathlib.Core.Path.{◌≡◌, refl, sym, ap, ◌∙◌}
 use mathlib.Core.Bool.{Bool, true, false, cond, not, ◌&&◌, not-eq-not, true≢false}
@@ -7,25 +7,19 @@ use Prim.Native.Nat.{ℕ, zero, suc, ◌+◌, ◌-◌, ◌≤◌, ◌<◌}
 use native.Mathlib.Decide.{dec_lt, ℕ_discrete}
 use native.Mathlib.Numerals.{add-one}
 use native.Mathlib.Omega.{arith}
-use borrow.Author.Tests.{eq-eqb, ne_eqb, not-true}
+use borrow.Author.Tests.{ne_eqb, not-true}
 use lib.Dec.{eqb}
 use Rattle.slots.specs.Table.{slot_of, occupied, slot_count}
 use Rattle.lookup.specs.Lookup.{matches, first_from, leads_to, leads_elsewhere, first_free}
 use Rattle.std.specs.Prelude.{None, Some}
 
 module _ (test : ℕ → Bool) where
-  -- a loop through the sixteen slots: it finds one, goes on, and ends
-  pub here : (i : ℕ) → i < slot_count → test i ≡ true → first_from test (slot_count - i) i ≡ Some i
-  here i h passes = let more : slot_count - i ≡ suc (slot_count - 1 - i) = omega arith in rw (more, passes)
-
+  -- a loop through the sixteen slots goes on
   pub further : (i : ℕ) → i < slot_count → test i ≡ false → first_from test (slot_count - i) i ≡ first_from test (slot_count - (i + 1)) (i + 1)
   further i h fails =
       let more : slot_count - i ≡ suc (slot_count - 1 - i) = omega arith in
       let less : slot_count - (i + 1) ≡ slot_count - 1 - i = omega arith in
       rw (more, fails, less, add-one)
-
-  pub nowhere : (i : ℕ) → slot_count ≤ i → first_from test (slot_count - i) i ≡ None
-  nowhere i h = let none : slot_count - i ≡ 0 = omega arith in rw none
 
   -- what is found lies among those looked at, and passes
   pub found : (n i j : ℕ) → first_from test n i ≡ Some j → (j < i + n) × (test j ≡ true) × (i ≤ j)
@@ -93,9 +87,6 @@ module _ (test : ℕ → Bool) (i : ℕ) where
 
   pub other_is : (j : ℕ) → (j ≡ i → ⊥) → others j ≡ test j
   other_is j other = simp (ne_eqb j i other)
-
-  pub own_fails : (j : ℕ) → j ≡ i → others j ≡ false
-  own_fails j own = simp (eq-eqb j i own)
 
 -- a slot that one test finds is found by another that it passes, where below it nothing passes the other alone
 pub found_too : (test other : ℕ → Bool) (i : ℕ) → first_from test slot_count 0 ≡ Some i → other i ≡ true

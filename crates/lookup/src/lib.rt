@@ -1,27 +1,24 @@
 // Which slot of a table a message leads to, which other one has its name, and which is free.
 #![tactic(auto)]
 
-ghost use Rattle.std.specs.Prelude.{◌≡◌};
-ghost use Rattle.lookup.specs.Lookup.{matches, leads_to, leads_elsewhere, first_free};
+ghost use Rattle.std.specs.Prelude.{◌≡◌, ◌<◌, ℕ, Bool};
+ghost use Rattle.slots.specs.Table.{slot_count};
+ghost use Rattle.lookup.specs.Lookup.{matches, leads_to, leads_elsewhere, first_free, first_from};
 
 use slots::index::SlotIndex;
 use slots::layout::{SLOTS, TABLE};
 use slots::record::Slot;
 
 /// The lowest occupied slot with that flag and KeyId and, for flag 1, that source.
+#[tactic(auto, unfolding(crate::specs::Lookup::leads_to))]
 pub fn leads_to(table: &[u8; TABLE], flag: u8, keyid: &[u8], source: &[u8]) -> Option<SlotIndex>
     ensures { result ≡ leads_to table.now flag keyid.now source.now }
 {
-    for number in 0..SLOTS {
-        let slot = SlotIndex { number };
-        if agrees(&Slot::at(table, slot), flag, keyid, source) {
-            return Some(slot);
-        }
-    }
-    None
+    first_slot(|slot| agrees(&Slot::at(table, slot), flag, keyid, source))
 }
 
 /// The lowest other one than this slot.
+#[tactic(auto, unfolding(crate::specs::Lookup::leads_elsewhere))]
 pub fn leads_elsewhere(
     table: &[u8; TABLE],
     slot: SlotIndex,
@@ -31,25 +28,28 @@ pub fn leads_elsewhere(
 ) -> Option<SlotIndex>
     ensures { result ≡ leads_elsewhere table.now slot flag keyid.now source.now }
 {
-    for number in 0..SLOTS {
-        if number == slot.number {
-            continue;
-        }
-        let other = SlotIndex { number };
-        if agrees(&Slot::at(table, other), flag, keyid, source) {
-            return Some(other);
-        }
-    }
-    None
+    let own = slot.number;
+    first_slot(move |other| {
+        other.number != own && agrees(&Slot::at(table, other), flag, keyid, source)
+    })
 }
 
 /// The lowest free slot.
+#[tactic(auto, unfolding(crate::specs::Lookup::first_free))]
 pub fn first_free(table: &[u8; TABLE]) -> Option<SlotIndex>
     ensures { result ≡ first_free table.now }
 {
+    first_slot(|slot| !Slot::at(table, slot).is_occupied())
+}
+
+// The lowest slot that passes a test.
+fn first_slot<F: Fn(SlotIndex) -> bool>(test: F) -> Option<SlotIndex>
+    requires { F.IsAlwaysCallable test }
+    ensures { (passes : ℕ → Bool) → ((i : ℕ) (b : Bool) → i < slot_count → F.post test i b → b ≡ passes i) → result ≡ first_from passes slot_count 0 }
+{
     for number in 0..SLOTS {
         let slot = SlotIndex { number };
-        if !Slot::at(table, slot).is_occupied() {
+        if test(slot) {
             return Some(slot);
         }
     }

@@ -1,17 +1,17 @@
 -- The rounds: those of a list put together, and the swap that is undone after the last.
 -- Assumes nothing.
-use Rattle.std.proofs.Common.{◌≡◌, ℕ, ◌+◌, ◌*◌, ◌^◌, List, [], ◌∷◌, ◌++◌, reverse, length, get_or, take, sym, ap, ◌∙◌, arith, length-append, take_all, take-suc}
+use Rattle.std.proofs.Common.{◌≡◌, ℕ, List, [], ◌∷◌, ◌++◌, reverse, length, get_or, take, sym, ap, ◌∙◌, arith, length-append, take_all, take-suc}
 use lib.ListN.{length-reverse}
 use Rattle.std.proofs.lemmas.List.Sums.{fold-append}
 use Rattle.magma.specs.declared.Halves.{Halves}
-use Rattle.magma.specs.Magma.{swapping, staying, through, schedule, halves_of, encrypted}
+use Rattle.magma.specs.Magma.{swapping, staying, through, schedule, halves_of, block_of, encrypted}
 
 pub through_append : (a b : List ℕ) (h : Halves) → through (a ++ b) h ≡ through b (through a h)
 through_append a b h = fold-append (λ (g : Halves) (word : ℕ). swapping word g) h a b
 
 module _ (key : List ℕ) where
   -- the key forwards three times, then backwards
-  pub in_turn : (h : Halves) → through (schedule key) h ≡ through (reverse key) (through key (through key (through key h)))
+  in_turn : (h : Halves) → through (schedule key) h ≡ through (reverse key) (through key (through key (through key h)))
   unfolding schedule
   in_turn h = rw (through_append, through_append, through_append)
 
@@ -26,7 +26,8 @@ module _ (key : List ℕ) where
         ap (λ (l : List ℕ). through l h) (sym (take_all 32 (schedule key) (omega (arith, thirty_two))) ∙ take-suc (schedule key) 31 0 (omega (arith, thirty_two)))
         ∙ through_append (take 31 (schedule key)) (get_or (schedule key) 31 0 ∷ []) h
 
-    -- 32 rounds with the swap after each, and the halves joined the other way round
-    pub joined : (h : Halves) (block : ℕ) → h ≡ through (schedule key) (halves_of block) → h.low * 2 ^ 32 + h.high ≡ encrypted key block
+    -- the rounds as the code makes them, with the swap after each, and the last swap undone
+    pub joined : (block : ℕ) (last : Halves) → last ≡ through (reverse key) (through key (through key (through key (halves_of block))))
+        → block_of (record { high = last.low; low = last.high }) ≡ encrypted key block
     unfolding encrypted staying swapping
-    joined h block e = rw (e ∙ last (halves_of block))
+    joined block h e = rw (e ∙ sym (in_turn (halves_of block)) ∙ last (halves_of block))

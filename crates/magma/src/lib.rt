@@ -16,14 +16,43 @@ const PI: [[u8; 16]; 8] = [
     [1, 7, 14, 13, 0, 5, 8, 3, 4, 15, 10, 6, 9, 12, 11, 2],
 ];
 
-// The rows of the substitution, lent to the rounds: each use of the constant copies it.
-type Rows = [[u8; 16]; 8];
+// The substitution, a row for each nibble of a word, lent to the rounds: each use of the constant copies it.
+#[derive(Drop)]
+pub struct Rows {
+    rows: [[u8; 16]; 8],
+    ghost standard: { rows ≡ pi },
+}
 
 // A block between two rounds.
 #[derive(Clone, Copy)]
 pub struct Halves {
     pub high: u32,
     pub low: u32,
+}
+
+impl From<u64> for Halves {
+    ghost use Rattle.std.specs.Prelude.{◌≡◌};
+    ghost use Rattle.magma.specs.Magma.{halves_of};
+
+    ghost from_gives = { λ block halves. halves ≡ halves_of block };
+
+    fn from(block: u64) -> Halves {
+        Halves {
+            high: (block >> 32) as u32,
+            low: (block % (1 << 32)) as u32,
+        }
+    }
+}
+
+impl From<Halves> for u64 {
+    ghost use Rattle.std.specs.Prelude.{◌≡◌};
+    ghost use Rattle.magma.specs.Magma.{block_of};
+
+    ghost from_gives = { λ halves block. block ≡ block_of halves };
+
+    fn from(halves: Halves) -> u64 {
+        (u64::from(halves.high) << 32) + u64::from(halves.low)
+    }
 }
 
 // The block that Magma makes of a block.
@@ -34,15 +63,13 @@ pub fn encrypt(key: &[u32; 8], block: u64) -> u64
 }
 
 // The rows of the substitution, to be taken once a block.
-pub fn table() -> Rows
-    ensures { result ≡ pi }
-{
-    PI
+#[tactic(auto, unfolding(crate::specs::Magma::pi))]
+pub fn table() -> Rows {
+    Rows { rows: PI }
 }
 
 // The eight words of a key.
-pub fn key_words(bytes: &[u8]) -> [u32; 8]
-    requires { length bytes.now ≡ 32 }
+pub fn key_words(bytes: &[u8; 32]) -> [u32; 8]
     ensures { result ≡ key_words bytes.now }
 {
     let mut words = [0; 8];
@@ -52,25 +79,23 @@ pub fn key_words(bytes: &[u8]) -> [u32; 8]
     words
 }
 
-// The 32 rounds: the key's words in order three times, then in reverse. The swap after the last is undone where the halves are joined.
-fn run(rows: &Rows, key: &[u32], block: u64) -> u64
-    requires { (rows.now ≡ pi) × (length key.now ≡ 8) }
+// The 32 rounds: the key's words in order three times, then in reverse. The swap after the last is undone.
+fn run(rows: &Rows, key: &[u32; 8], block: u64) -> u64
     ensures { result ≡ encrypted key.now block }
 {
-    let start = Halves {
-        high: (block >> 32) as u32,
-        low: (block % 4294967296) as u32,
-    };
-    let first = forward(rows, key, start);
+    let first = forward(rows, key, block.into());
     let second = forward(rows, key, first);
     let third = forward(rows, key, second);
     let last = backward(rows, key, third);
-    (u64::from(last.low) << 32) + u64::from(last.high)
+    let joined = Halves {
+        high: last.low,
+        low: last.high,
+    };
+    joined.into()
 }
 
 // A round for each word of the key, in order.
 pub fn forward(rows: &Rows, key: &[u32], halves: Halves) -> Halves
-    requires { rows.now ≡ pi }
     ensures { result ≡ through key.now halves }
 {
     key.iter()
@@ -79,7 +104,6 @@ pub fn forward(rows: &Rows, key: &[u32], halves: Halves) -> Halves
 
 // A round for each word of the key, in reverse.
 pub fn backward(rows: &Rows, key: &[u32], halves: Halves) -> Halves
-    requires { rows.now ≡ pi }
     ensures { result ≡ through (reverse key.now) halves }
 {
     let words = key.iter().rev();
@@ -88,8 +112,8 @@ pub fn backward(rows: &Rows, key: &[u32], halves: Halves) -> Halves
 
 impl Halves {
     // A round, with the swap after it.
+    #[tactic(auto, unfolding(crate::specs::Magma::swapping))]
     pub fn round(self, rows: &Rows, word: u32) -> Halves
-        requires { rows.now ≡ pi }
         ensures { result ≡ swapping word self }
     {
         Halves {
@@ -100,24 +124,22 @@ impl Halves {
 }
 
 // What a round combines with the high half.
+#[tactic(auto, using(crate::proofs::Substitution::rotated_is), unfolding(crate::specs::Magma::turned))]
 pub fn turn(rows: &Rows, word: u32, low: u32) -> u32
-    requires { rows.now ≡ pi }
     ensures { result ≡ turned word low }
 {
-    let mixed = substitute(rows, low.wrapping_add(word));
-    (mixed << 11) + (mixed >> 21)
+    substitute(rows, low.wrapping_add(word)).rotate_left(11)
 }
 
 // Each nibble of x, substituted by its row.
 pub fn substitute(rows: &Rows, x: u32) -> u32
-    requires { rows.now ≡ pi }
     ensures { result ≡ substituted 8 x }
 {
     let mut done = 0;
     for row in 0..8 {
         let shift = 4 * (row as u32);
         let nibble = ((x >> shift) % 16) as usize;
-        done += u32::from(rows[row][nibble]) << shift;
+        done += u32::from(rows.rows[row][nibble]) << shift;
     }
     done
 }

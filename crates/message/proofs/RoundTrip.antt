@@ -10,12 +10,11 @@ use lib.ListN.{length, get_or, take, drop, length-append}
 use lib.Seq.{take_at, drop_at}
 use Rattle.octets.specs.Octets.{Bytes, bytes_of}
 use Rattle.octets.proofs.BigEndian.{length_bytes, number_bytes}
-use Rattle.magma.specs.Magma.{key_words}
 use Rattle.format.specs.KeyId.{length_of}
 use Rattle.format.specs.Suite.{icv_length_of}
 use Rattle.format.specs.KeyData.{KeyData}
 use Rattle.format.specs.Header.{greatest_message, fixed_bytes, read_of, header_bytes, payload_length, payload_in}
-use Rattle.message.specs.Sealing.{icv_of, enciphered, front_of, sealed, right, opened, opened_under}
+use Rattle.message.specs.Sealing.{inputs_of, icv_of, enciphered, front_of, sealed, right, opened, opened_under}
 use Rattle.format.specs.declared.suite.Suite.{Suite}
 use Rattle.message.proofs.Fronts.{front_length, front_bytes}
 use Rattle.format.proofs.KeyIds.{length_anywhere}
@@ -30,13 +29,13 @@ module _ (s : Suite) (k : KeyData) (seq_num : ℕ) (payload : List ℕ) where
 
   -- header, payload as it is sent, and ICV
   abbrev sent : List ℕ
-  sent = enciphered s k.edition (key_words k.key) k.source seq_num payload
+  sent = enciphered (inputs_of s k seq_num) payload
 
   abbrev front : List ℕ
   front = front_of s k seq_num payload
 
   abbrev icv : ℕ
-  icv = icv_of s k.edition (key_words k.key) k.source seq_num front
+  icv = icv_of (inputs_of s k seq_num) front
 
   pub sealed_length : length (sealed s k seq_num payload) ≡ fixed_bytes + length k.key_id + length payload + icv_length_of s
   unfolding sealed
@@ -62,12 +61,12 @@ module _ (s : Suite) (k : KeyData) (seq_num : ℕ) (payload : List ℕ) where
     pub sealed_reads : read_of (sealed s k seq_num payload) ≡ Ok (header_for k.flag s k.key_id seq_num)
     sealed_reads =
         let rest : length (sent ++ bytes_of (icv_length_of s) icv) ≡ length payload + icv_length_of s =
-        rw (length-append, length_bytes, enciphered_length s k.edition (key_words k.key) k.source seq_num payload) in
+        rw (length-append, length_bytes, enciphered_length (inputs_of s k seq_num) payload) in
         ap read_of in_parts ∙ read_written k.flag s k.key_id seq_num (sent ++ bytes_of (icv_length_of s) icv) w (omega arith) (omega arith)
 
     pub sealed_right : Bytes payload → right (header_for k.flag s k.key_id seq_num) k (sealed s k seq_num payload) ≡ true
     sealed_right bytes =
-        let small = icv_lt s k.edition (key_words k.key) k.source seq_num front (front_bytes s k seq_num payload w.keyid_bytes bytes) in
+        let small = icv_lt (inputs_of s k seq_num) front (front_bytes s k seq_num payload w.keyid_bytes bytes) in
         let c : Compared (header_for k.flag s k.key_id seq_num) k.edition k.key k.source message icv icv = record {
           carries = rw icv_there (sym (number_bytes (icv_length_of s) icv ∙ mod-eq_of_lt small));
           should = rw front_there;
@@ -85,8 +84,8 @@ module _ (s : Suite) (k : KeyData) (seq_num : ℕ) (payload : List ℕ) where
     payload_there =
         rw (sealed_payload_length, payload_place, in_parts)
         (ap (take (length payload)) (drop_at (header_bytes k.flag s k.key_id seq_num) (sent ++ bytes_of (icv_length_of s) icv) (fixed_bytes + length k.key_id) (header_bytes_length k.flag s k.key_id seq_num))
-        ∙ take_at sent (bytes_of (icv_length_of s) icv) (length payload) (enciphered_length s k.edition (key_words k.key) k.source seq_num payload))
+        ∙ take_at sent (bytes_of (icv_length_of s) icv) (length payload) (enciphered_length (inputs_of s k seq_num) payload))
 
     pub sealed_opens : opened (header_for k.flag s k.key_id seq_num) k (sealed s k seq_num payload) ≡ payload
     unfolding opened_under
-    sealed_opens = rw payload_there (enciphered_twice s k.edition (key_words k.key) k.source seq_num payload)
+    sealed_opens = rw payload_there (enciphered_twice (inputs_of s k seq_num) payload)

@@ -2,103 +2,89 @@
 ghost use Rattle.std.specs.Prelude.{List, ◌≡◌, ℕ, ◌+◌, ◌^◌, ◌<◌, ◌≤◌, length};
 ghost use Rattle.octets.specs.Octets.{put};
 ghost use Rattle.magma.specs.Magma.{key_words};
-ghost use Rattle.format.specs.Header.{read_of, fixed_bytes};
-ghost use Rattle.format.specs.KeyData.{keyed};
+ghost use Rattle.format.specs.Header.{fixed_bytes};
+ghost use Rattle.format.specs.KeyData.{handed_in};
 ghost use Rattle.message.specs.Sealing.{enciphered, icv_of, sealed, opened_as, output_after};
 ghost use Rattle.format.specs.Suite.{icv_length_of};
 
 use derivation::{Derivation, Purpose};
 use format::header;
-use format::header::Header;
-use format::key_data::Terms;
+use format::header::Message;
+use format::key_data::KeyData;
 use format::suite::Suite;
 
 // The message for a payload is written at the start of the output. Answers its length.
-pub fn seal(
-    suite: Suite,
-    terms: Terms,
-    keyid: &[u8],
-    source: &[u8],
-    key: &[u8],
-    seqnum: u64,
-    payload: &[u8],
-    out: &mut [u8],
-) -> usize
-    requires { (length key.now ≡ 32) × (terms.flag < 2) × (length source.now ≤ 32) × (seqnum < 2 ^ 48) × (fixed_bytes + length keyid.now + length payload.now + icv_length_of suite ≤ length out.old) × (length payload.now ≤ 2 ^ 35) }
-    ensures answers { result ≡ length (sealed suite (keyed terms keyid.now source.now key.now) seqnum payload.now) }
-    ensures writes { out.new ≡ put out.old 0 (sealed suite (keyed terms keyid.now source.now key.now) seqnum payload.now) }
+pub fn seal(suite: Suite, keys: &KeyData<'_>, seqnum: u64, payload: &[u8], out: &mut [u8]) -> usize
+    requires { (length keys.now.key ≡ 32) × (keys.now.flag < 2) × (length keys.now.source ≤ 32) × (seqnum < 2 ^ 48) × (fixed_bytes + length keys.now.key_id + length payload.now + icv_length_of suite ≤ length out.old) × (length payload.now ≤ 2 ^ 35) }
+    ensures answers { result ≡ length (sealed suite keys.now seqnum payload.now) }
+    ensures writes { out.new ≡ put out.old 0 (sealed suite keys.now seqnum payload.now) }
 {
-    let base = modes::key_words(key);
-    seal_under(suite, terms, keyid, source, &base, seqnum, payload, out)
-}
-
-// The same with the words of the base key at hand, whatever key has these words.
-pub fn seal_under(
-    suite: Suite,
-    terms: Terms,
-    keyid: &[u8],
-    source: &[u8],
-    base: &[u32; 8],
-    seqnum: u64,
-    payload: &[u8],
-    out: &mut [u8],
-) -> usize
-    requires { (terms.flag < 2) × (length source.now ≤ 32) × (seqnum < 2 ^ 48) × (fixed_bytes + length keyid.now + length payload.now + icv_length_of suite ≤ length out.old) × (length payload.now ≤ 2 ^ 35) }
-    ensures answers { (key : List ℕ) → key_words key ≡ base.now → result ≡ length (sealed suite (keyed terms keyid.now source.now key) seqnum payload.now) }
-    ensures writes { (key : List ℕ) → key_words key ≡ base.now → out.new ≡ put out.old 0 (sealed suite (keyed terms keyid.now source.now key) seqnum payload.now) }
-{
+    let base = modes::key_words(keys.key.try_into().unwrap());
     let purpose = Purpose {
         suite,
-        edition: terms.edition,
+        edition: keys.edition,
         seqnum,
     };
-    let keys = Derivation::new(base, purpose, source);
-    header::write_header(terms.flag, suite, keyid, seqnum, out);
+    let derived = Derivation::new(&base, purpose, keys.source);
+    seal_under(&derived, keys.flag, keys.keyid, payload, out)
+}
+
+// The same with what the keys are derived from at hand, whatever key has the words of the base key.
+pub fn seal_under(
+    keys: &Derivation<'_>,
+    flag: u8,
+    keyid: &[u8],
+    payload: &[u8],
+    out: &mut [u8],
+) -> usize
+    requires { (flag < 2) × (keys.now.seq_num < 2 ^ 48) × (fixed_bytes + length keyid.now + length payload.now + icv_length_of keys.now.suite ≤ length out.old) × (length payload.now ≤ 2 ^ 35) }
+    ensures answers { (key : List ℕ) (cs : ℕ) → key_words key ≡ keys.now.base → result ≡ length (sealed keys.now.suite (handed_in flag keyid.now keys.now.source cs keys.now.edition key) keys.now.seq_num payload.now) }
+    ensures writes { (key : List ℕ) (cs : ℕ) → key_words key ≡ keys.now.base → out.new ≡ put out.old 0 (sealed keys.now.suite (handed_in flag keyid.now keys.now.source cs keys.now.edition key) keys.now.seq_num payload.now) }
+{
+    let suite = keys.suite();
+    header::write_header(flag, suite, keyid, keys.seqnum(), out);
     let start = header::FIXED + keyid.len();
     let end = start + payload.len();
-    encipher(&keys, payload, out, start);
-    let icv = icv(&keys, &out[..end]);
+    encipher(keys, payload, out, start);
+    let icv = icv(keys, &out[..end]);
     octets::write(out, end, suite.icv_length(), icv);
     end + suite.icv_length()
 }
 
-// The payload of a message whose header was read is written at the start of the output, if the ICV is right in that edition. Answers its length then.
+// The payload of a message is written at the start of the output, if the ICV is right in that edition. Answers its length then.
 pub fn open(
-    header: Header,
+    message: &Message<'_>,
     edition: u8,
     key: &[u8],
     source: &[u8],
-    message: &[u8],
     out: &mut [u8],
 ) -> Option<usize>
-    requires { (read_of message.now ≡ Ok header) × (length key.now ≡ 32) × (length source.now ≤ 32) × (length message.now ≤ length out.old) }
-    ensures answers { result ≡ opened_as header edition key.now source.now message.now }
-    ensures writes { out.new ≡ output_after header edition key.now source.now message.now out.old }
+    requires { (length key.now ≡ 32) × (length source.now ≤ 32) × (length message.now.bytes.now ≤ length out.old) }
+    ensures answers { result ≡ opened_as message.now.header edition key.now source.now message.now.bytes.now }
+    ensures writes { out.new ≡ output_after message.now.header edition key.now source.now message.now.bytes.now out.old }
 {
-    let base = modes::key_words(key);
-    let suite = header.suite;
-    let keyid = header.keyid;
-    let start = header::FIXED + keyid.length();
-    let end = message.len() - suite.icv_length();
+    let base = modes::key_words(key.try_into().unwrap());
+    let header = message.header;
     let purpose = Purpose {
-        suite,
+        suite: header.suite,
         edition,
         seqnum: header.seqnum,
     };
     let keys = Derivation::new(&base, purpose, source);
-    let icv = icv(&keys, &message[..end]);
-    if octets::read(message, end, suite.icv_length()) != icv {
+    let icv = icv(&keys, message.covered());
+    if message.icv() != icv {
         return None;
     }
-    encipher(&keys, &message[start..end], out, 0);
-    Some(end - start)
+    let payload = message.payload();
+    encipher(&keys, payload, out, 0);
+    Some(payload.len())
 }
 
 // The ICV of all that stands before it, as a number.
 fn icv(keys: &Derivation, front: &[u8]) -> u64
-    ensures { result ≡ icv_of keys.now.purpose.suite keys.now.purpose.edition keys.now.base keys.now.source.now keys.now.purpose.seqnum front.now }
+    ensures { result ≡ icv_of keys.now front.now }
 {
-    let suite = keys.purpose.suite;
+    let suite = keys.suite();
     let behind = suite.block_length() - suite.icv_length();
     modes::check_value(&keys.check_key(), front) >> (8 * behind as u64)
 }
@@ -107,11 +93,10 @@ fn icv(keys: &Derivation, front: &[u8]) -> u64
 #[tactic(auto, unfolding(crate::specs::Sealing::enciphered))]
 fn encipher(keys: &Derivation, payload: &[u8], out: &mut [u8], at: usize)
     requires { (at + length payload.now ≤ length out.old) × (length payload.now ≤ 2 ^ 35) }
-    ensures { out.new ≡ put out.old at (enciphered keys.now.purpose.suite keys.now.purpose.edition keys.now.base keys.now.source.now keys.now.purpose.seqnum payload.now) }
+    ensures { out.new ≡ put out.old at (enciphered keys.now payload.now) }
 {
-    if keys.purpose.suite.enciphers() {
-        let iv = (keys.purpose.seqnum % 4294967296) as u32;
-        modes::counter(&keys.cipher_key(), iv, payload, out, at);
+    if keys.suite().enciphers() {
+        modes::counter(&keys.cipher_key(), keys.iv(), payload, out, at);
     } else {
         octets::copy(payload, out, at);
     }

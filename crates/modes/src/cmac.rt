@@ -2,7 +2,7 @@
 ghost use Rattle.std.specs.Prelude.{List, ◌++◌, ◌∷◌, [], ◌≡◌, ℕ, ◌*◌, ◌/◌, ◌%◌, ◌≤◌, length};
 ghost use Rattle.octets.specs.Octets.{big_endian};
 ghost use Rattle.magma.specs.Magma.{encrypted};
-ghost use Rattle.modes.specs.Modes.{doubled, first_subkey, second_subkey, before, chained, magma_check};
+ghost use Rattle.modes.specs.Modes.{doubled, first_subkey, second_subkey, before, chained, check_with, magma_check};
 
 use std::marker::Model;
 
@@ -31,6 +31,7 @@ pub fn check_value(key: &[u32; 8], bytes: &[u8]) -> u64
 
 impl<'k> CheckKey<'k> {
     // The key with its subkeys, for check values of several pieces of data.
+    #[tactic(auto, unfolding(crate::specs::Modes::first_subkey, crate::specs::Modes::second_subkey))]
     pub fn of(key: &'k [u32; 8]) -> CheckKey<'k>
         ensures { result ≡ key.now }
     {
@@ -58,17 +59,22 @@ impl<'k> CheckKey<'k> {
     pub fn check_value(&self, bytes: &[u8]) -> u64
         ensures { result ≡ magma_check self.now bytes.now }
     {
-        let (front, last) = bytes.split_at(8 * blocks_before(bytes.len()));
-        let subkey = if last.len() == 8 {
-            self.first
-        } else {
-            self.second
-        };
-        magma::encrypt(self.key, chain(self.key, front) ^ padded(last) ^ subkey)
+        check_with(self.key, self.first, self.second, bytes)
     }
 }
 
+// The check value with a subkey for a last block that is full and one for a shorter one. By value: lent with the key in a struct, they take its stack.
+#[inline(never)]
+fn check_with(key: &[u32; 8], full: u64, short: u64, bytes: &[u8]) -> u64
+    ensures { result ≡ check_with 8 (encrypted key.now) full short bytes.now }
+{
+    let (front, last) = bytes.split_at(8 * blocks_before(bytes.len()));
+    let subkey = if last.len() == 8 { full } else { short };
+    magma::encrypt(key, chain(key, front) ^ padded(last) ^ subkey)
+}
+
 // A block shifted left by one, with what the top bit asks for.
+#[tactic(auto, unfolding(crate::specs::Modes::doubled))]
 fn double(block: u64) -> u64
     ensures { result ≡ doubled 8 0x1b block }
 {

@@ -1,15 +1,8 @@
-// Bytes in slices: big-endian numbers read and written, and what std's slices do at a place of one. `specs/Octets.antt` says what each means.
+// Bytes in slices: big-endian numbers read and written, and bytes and zeros put at a place. `specs/Octets.antt` says what each means.
 #![tactic(auto)]
 
 ghost use Rattle.std.specs.Prelude.{◌≡◌, ◌+◌, ◌*◌, ◌^◌, ◌≤◌, ◌<◌, length, drop, replicate};
-ghost use Rattle.octets.specs.Octets.{big_endian, bytes_of, put, same};
-
-// The byte as a number, with its bound.
-pub fn wide(x: u8) -> u64
-    ensures { (result ≡ x) × (result < 256) }
-{
-    u64::from(x)
-}
+ghost use Rattle.octets.specs.Octets.{big_endian, bytes_of, put};
 
 // The number that the n bytes at `at` write.
 pub fn read(bytes: &[u8], at: usize, n: usize) -> u64
@@ -49,11 +42,4 @@ pub fn clear(out: &mut [u8], at: usize, n: usize)
     ensures { out.new ≡ put out.old at (replicate n 0) }
 {
     out[at..at + n].fill(0);
-}
-
-// Whether two slices hold the same bytes.
-pub fn equal(a: &[u8], b: &[u8]) -> bool
-    ensures { result ≡ same a.now b.now }
-{
-    a == b
 }

@@ -6,26 +6,16 @@ use answers::OUTPUT;
 use format::header::GREATEST;
 use slots::layout::TABLE;
 use std::io;
-use std::io::Read;
 
 // One byte more than a message may have, so that a longer one is seen to be so.
-const ROOM: u64 = GREATEST as u64 + 1;
+const ROOM: usize = GREATEST + 1;
 
 fn main(rt: HostRuntime) -> io::Result<()> {
-    let source = appendix::SOURCE;
-    let mut table = [0u8; TABLE];
+    let mut table = [0; TABLE];
     station::install(&mut table);
-    let mut message = Vec::new(rt.alloc());
-    rt.reader().take(ROOM).read_to_end(&mut message)?;
-    let reply = receive(&mut table, &message, &source);
-    station::print_answer(&rt, reply)?;
-    let mut lines = [0u8; OUTPUT];
-    station::show(&rt, &table, &mut lines)
-}
-
-// The reply to a message that came with an identifier.
-fn receive(table: &mut [u8; TABLE], message: &[u8], source: &[u8]) -> u64 {
-    let mut payload = [0u8; OUTPUT];
-    let answer = gateway::receive(table, message, source, &mut payload);
-    answer.reply
+    let message = input::read(rt.alloc(), rt.reader(), ROOM)?;
+    let mut payload = [0; OUTPUT];
+    let answer = gateway::receive(&mut table, &message, &appendix::SOURCE, &mut payload);
+    station::print_answer(&rt, answer.reply)?;
+    station::print_entry(&rt, &table)
 }

@@ -14,7 +14,8 @@ use Rattle.octets.specs.Octets.{Bytes, part}
 use Rattle.octets.proofs.BigEndian.{bytes_drop, bytes_take}
 use Rattle.slots.specs.Table.{table_length}
 use Rattle.gateway.specs.Receive.{Received, received}
-use Rattle.capture.specs.Capture.{Item, is_known, order_of, header_length, item_of, record_at, records_in, records_from, records_of}
+use Rattle.std.specs.Prelude.{Option, Some, None, is_some}
+use Rattle.capture.specs.Capture.{Item, order_of, header_length, item_of, ordered_at, records_in, records_by, records_of}
 use Rattle.capture.specs.declared.order.Order.{Order}
 use Rattle.feed.specs.Report.{Turn, blank, brought_by, turn_of, table_after, text_room, IsReported, refused, read_in, reported}
 use Rattle.feed.specs.declared.Summary.{Summary}
@@ -48,7 +49,7 @@ module _ (file : List ℕ) (bytes : Bytes file) where
   unfolding records_in
   records_arrive zero o at = tt
   records_arrive (suc n) o at =
-      let r = record_at o file at in
+      let r = ordered_at o file at in
       let message = part r.message (r.next - r.message) file in
       let rest = records_arrive n o r.next in
       either (λ (rs : List Item). AllArrive (calls_of rs)) (ltb at (length file)) (item_of file r ∷ records_in n o file r.next) []
@@ -57,21 +58,21 @@ module _ (file : List ℕ) (bytes : Bytes file) where
       (λ _. tt)
 
   pub calls_arrive : AllArrive (calls_in file)
-  calls_arrive =
-      either (λ (rs : List Item). AllArrive (calls_of rs)) (is_known (order_of file)) (records_from (order_of file) file header_length) []
-      (λ _. records_arrive (length file) (order_of file) header_length) (λ _. tt)
+  calls_arrive = by (order_of file)
+    where
+      by : (o : Option Order) → AllArrive (calls_of (records_by o file))
+      by (Some o) = records_arrive (length file) o header_length
+      by None = tt
 
 -- With room for its text, a report leaves the table that the calls of its file leave; where the header is bad there are none.
 pub reported_run : (t file out : List ℕ) → text_room ≤ length out → (reported t file out).table ≡ run t (calls_in file)
 unfolding reported read_in
-reported_run t file out room = rw (le-ltb (length out) text_room room) (by (is_known (order_of file)))
+reported_run t file out room = rw (le-ltb (length out) text_room room) (by (order_of file))
   where
-    rs : List Item
-    rs = records_from (order_of file) file header_length
-
-    by : (known : Bool) → (cond known (read_in rs t out) (record { answer = refused bad_capture; table = t; out = out })).table ≡ run t (calls_of (cond known rs []))
-    by true = calls_run t rs
-    by false = refl
+    by : (o : Option Order) → (cond (is_some o) (read_in (records_by o file) t out) (record { answer = refused bad_capture; table = t; out = out })).table
+        ≡ run t (calls_of (records_by o file))
+    by (Some o) = calls_run t (records_by (Some o) file)
+    by None = refl
 
 -- where the calls of some records hand out nothing, no line of theirs has a payload
 lines_refused : (t : List ℕ) (rs : List Item) → NothingHanded (results t (calls_of rs)) → AllRefused t rs

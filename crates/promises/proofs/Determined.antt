@@ -11,6 +11,7 @@ use Rattle.entries.specs.Install.{Left, IsLeft, installed, removed}
 use Rattle.loading.specs.Load.{loaded}
 use Rattle.listing.specs.Listing.{IsListed, listed}
 use Rattle.gateway.specs.Receive.{IsReceived, received}
+use Rattle.std.specs.Prelude.{Option}
 use Rattle.capture.specs.Capture.{order_of, record_at}
 use Rattle.capture.specs.declared.order.Order.{Order}
 use Rattle.capture.specs.declared.record.Record.{Record}
@@ -65,8 +66,8 @@ pub report_determined : (table file out : List ℕ) {r s : Summary} {t u x y : L
 report_determined table file out p q = (same p.answers q.answers, same p.leaves q.leaves, same p.writes q.writes)
 
 -- of a file no more is answered than what its bytes say
-pub order_determined : (file : List ℕ) {o p : Order} → o ≡ order_of file → p ≡ order_of file → o ≡ p
+pub order_determined : (file : List ℕ) {o p : Option Order} → o ≡ order_of file → p ≡ order_of file → o ≡ p
 order_determined file = same
 
-pub record_determined : (o : Order) (file : List ℕ) (at : ℕ) {r s : Record} → r ≡ record_at o file at → s ≡ record_at o file at → r ≡ s
+pub record_determined : (o : Option Order) (file : List ℕ) (at : ℕ) {r s : Record} → r ≡ record_at o file at → s ≡ record_at o file at → r ≡ s
 record_determined o file at = same

@@ -30,7 +30,7 @@ use Rattle.lookup.specs.Lookup.{leads_to, leads_elsewhere, first_free}
 use Rattle.slots.specs.Record.{undamaged}
 use Rattle.slots.specs.Table.{slot_of, cs_of, window_of, key_data_of, is_held}
 use Rattle.numbers.proofs.Tests.{and_left, and_right, neither_left, neither_right}
-use Rattle.capture.specs.Capture.{header_length, record_length, magic_of, is_bad, order_of, is_known, without, left_at, captured_at, original_at, is_cut, is_unreadable, data_at, ordered_at, record_at, records_from}
+use Rattle.capture.specs.Capture.{record_length, magic_of, is_bad, without, left_at, captured_at, original_at, is_cut, is_unreadable, data_at, ordered_at, record_at, records_of}
 use Rattle.capture.specs.declared.order.Order.{Order}
 use Rattle.capture.specs.declared.record.Record.{Record}
 use Rattle.capture.proofs.Orders.{known_unless_bad}
@@ -243,17 +243,17 @@ report_reply t file out =
     refusal : ℕ → Reported
     refusal n = record { answer = unread n; table = t; out = out }
 
-    by : (short bad : Bool) → (cond short (refusal 1) (cond (not bad) (read_in (records_from (order_of file) file header_length) t out) (refusal 17))).answer.reply
+    by : (short bad : Bool) → (cond short (refusal 1) (cond (not bad) (read_in (records_of file) t out) (refusal 17))).answer.reply
         ≡ cond short 1 (cond bad 17 0)
     by true bad = refl
     by false true = refl
     by false false = refl
 
--- of a record that begins before the end of a file whose order is known
-pub record_reply : (o : Order) → is_known o ≡ true → (file : List ℕ) (at : ℕ) → at < length file → (record_at o file at).reply ≡ first_of (record_replies o file at)
+-- of a record that begins before the end of a file that has an order
+pub record_reply : (o : Order) (file : List ℕ) (at : ℕ) → at < length file → (record_at (Some o) file at).reply ≡ first_of (record_replies o file at)
 unfolding ordered_at data_at record_replies
-record_reply o is file at some =
-    rw (is, ne_eqb (left_at file at) 0 (λ z. omega arith))
+record_reply o file at some =
+    rw (ne_eqb (left_at file at) 0 (λ z. omega arith))
     (by (is_cut o file at) (eqb (captured_at o file at) (original_at o file at)) (is_unreadable file (at + record_length) (at + record_length + captured_at o file at)))
   where
     next : ℕ
@@ -332,6 +332,6 @@ pub report_exactly : (t file out : List ℕ) → Exactly (reported t file out).a
 unfolding report_replies
 report_exactly t file out = exactly (report_replies file out) (report_reply t file out) refl
 
-pub record_exactly : (o : Order) → is_known o ≡ true → (file : List ℕ) (at : ℕ) → at < length file → Exactly (record_at o file at).reply (record_replies o file at)
+pub record_exactly : (o : Order) (file : List ℕ) (at : ℕ) → at < length file → Exactly (record_at (Some o) file at).reply (record_replies o file at)
 unfolding record_replies
-record_exactly o is file at some = exactly (record_replies o file at) (record_reply o is file at some) refl
+record_exactly o file at some = exactly (record_replies o file at) (record_reply o file at some) refl

@@ -12,13 +12,12 @@ use lib.Dec.{ltb}
 use lib.ListN.{length}
 use Rattle.answers.specs.Answers.{output_room, output_small}
 use Rattle.octets.specs.Octets.{Bytes}
-use Rattle.window.specs.Counters.{cut}
 use Rattle.format.specs.Header.{read_of}
-use Rattle.slots.specs.Table.{slot_of, entry_of}
 use Rattle.gateway.specs.Receive.{Received}
 use Rattle.gateway.proofs.Arrivals.{short_output}
 use Rattle.promises.specs.Calls.{Call, arrival, install, remove, change, load, OfBytes, called, after, run, results, Trace, last_of}
 use Rattle.promises.specs.Counted.{Beginning, Told, apart, below, used, forged, new, is_replay, is_forgery, how_many, is_of, told_of, told, told_from}
+use Rattle.promises.specs.Histories.{CountersBy}
 use Rattle.promises.specs.History.{Begins, GoesOn, Unended, reply_to, is_mine, is_answered, answered_in, nine_or_ten, eleven}
 use Rattle.promises.proofs.History.{history}
 use Rattle.promises.proofs.Runs.{begun}
@@ -99,13 +98,6 @@ just_eleven = record { none = refl; small = refl; says = says }
     says used = refl
     says forged = refl
     says (new x) = refl
-
--- The counters of an entry, by the answers of calls that do not end its history: those that stood at the beginning, and how many arrivals of it came back
--- with 9 or 10, and with 11, each cut at the limit.
-abbrev pub CountersBy : Beginning → ℕ → List ℕ → List Call → List Received → Type 0
-CountersBy b i u cs rs =
-    ((entry_of (slot_of u i)).counters.replays ≡ cut (b.counters.replays + answered_in b.keys nine_or_ten cs rs))
-    × ((entry_of (slot_of u i)).counters.forged ≡ cut (b.counters.forged + answered_in b.keys eleven cs rs))
 
 pub counters_answered : {b : Beginning} {i : ℕ} {t : List ℕ} → Begins b i t → (cs : List Call) → GoesOn i t cs → CountersBy b i (run t cs) cs (results t cs)
 counters_answered begins cs goes =

@@ -17,14 +17,8 @@ use Rattle.slots.specs.Table.{slot_of, entry_of}
 use Rattle.promises.specs.Calls.{Call, arrival, install, remove, change, load, OfBytes, called, is_done}
 use Rattle.promises.specs.Counted.{Beginning, Message, Told, new, is_replay, is_forgery, told}
 use Rattle.promises.proofs.Counting.{counters_alike}
+use Rattle.promises.specs.Histories.{Gives}
 use Rattle.promises.specs.History.{nothing, one, answered, counted_of, Accounts}
-
--- an answer that hands a message out at slot i
-pub record Gives (i : ℕ) (a : Answer) (x : Message) : Type 0 where
-  pub done : a.reply ≡ 0
-  pub slot : a.slot ≡ i
-  pub number : a.seqnum ≡ x.number
-  pub payload : a.length ≡ x.payload
 
 pub nothing_given : {x : Message} → nothing ≡ one x → ⊥
 nothing_given e = let z : ◌≡◌ {A = ℕ} 0 1 = cc in omega arith

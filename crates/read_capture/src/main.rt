@@ -1,30 +1,36 @@
 // Reads a capture from standard input on a table that holds 01's entry, and prints a line for each record; `answer=17` where it is no capture.
 #![tactic(auto)]
 
+ghost use Rattle.std.specs.Prelude.{◌≤◌, length, IfOk};
+
 use capture::order::LONGEST;
 use feed::TEXT;
 use slots::layout::TABLE;
 use std::io;
-use std::io::Read;
 
 // One byte more than a capture may have, so that a longer one is seen to be so.
-const ROOM: u64 = LONGEST as u64 + 1;
+const ROOM: usize = LONGEST + 1;
 
 fn main(rt: HostRuntime) -> io::Result<()> {
-    let mut table = [0u8; TABLE];
+    let mut table = [0; TABLE];
     station::install(&mut table);
-    let mut file = Vec::new(rt.alloc());
-    rt.reader().take(ROOM).read_to_end(&mut file)?;
-    let mut text = [0u8; TEXT];
-    show(&rt, &mut table, &file, &mut text)
+    let file = input::read(rt.alloc(), rt.reader(), ROOM)?;
+    let mut text = [0; TEXT];
+    match report(&mut table, &file, &mut text) {
+        Ok(length) => rt.write_all(&text[..length]),
+        Err(reply) => station::print_answer(&rt, reply),
+    }
 }
 
-// The lines of a capture are printed, from a buffer that is lent for them.
-fn show(rt: &impl Print, table: &mut [u8; TABLE], file: &[u8], text: &mut [u8]) -> io::Result<()> {
-    let report = feed::report(table, file, text);
-    if report.reply != answers::DONE {
-        return station::print_answer(rt, report.reply);
+// The capture's lines are written into the output. Answers how long they are, or the reply where it is no capture.
+#[tactic(auto, using(feed::proofs::Room::reported_within))]
+fn report(table: &mut [u8; TABLE], file: &[u8], out: &mut [u8]) -> Result<usize, u64>
+    ensures { IfOk result (λ written. written ≤ length out.new) }
+{
+    let report = feed::report(table, file, out);
+    if report.reply == answers::DONE {
+        Ok(report.length)
+    } else {
+        Err(report.reply)
     }
-    let length = report.length;
-    rt.write_all(&text[..length])
 }

@@ -4,18 +4,15 @@
 use answers::OUTPUT;
 use slots::layout::TABLE;
 use std::io;
-use std::io::Read;
 
 // One byte more than the output that a listing is printed into, so that a longer text is not taken for a listing.
-const ROOM: u64 = OUTPUT as u64 + 1;
+const ROOM: usize = OUTPUT + 1;
 
 fn main(rt: HostRuntime) -> io::Result<()> {
-    let mut table = [0u8; TABLE];
+    let mut table = [0; TABLE];
     station::install(&mut table);
-    let mut text = Vec::new(rt.alloc());
-    rt.reader().take(ROOM).read_to_end(&mut text)?;
+    let text = input::read(rt.alloc(), rt.reader(), ROOM)?;
     let answer = loading::load(&mut table, &text);
     station::print_answer(&rt, answer.reply)?;
-    let mut lines = [0u8; OUTPUT];
-    station::show(&rt, &table, &mut lines)
+    station::print_entry(&rt, &table)
 }

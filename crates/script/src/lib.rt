@@ -7,15 +7,15 @@
 // as it stands. Empty lines and lines that begin with `#` say nothing.
 #![tactic(auto)]
 
-mod commands; // commands.rt: which command a line has
-mod operands; // operands.rt: the bytes that a line's operands write
+mod calling; // calling.rt: a program's commands, and the calls of a script
+mod operand; // operand.rt: the bytes that a line's operands write
 mod output; // output.rt: a line of output for a line of the script
-mod text; // text.rt: parts of a text
+mod parts; // parts.rt: the parts of a line
 
-pub use commands::command;
-pub use operands::{MEMORY, byte, number, operand, word};
+pub use calling::{Command, Length, run};
+pub use operand::Operands;
 pub use output::{not_understood, show, show_number};
-pub use text::{part, until};
+pub use parts::Line;
 
-// How many bytes of its standard input a program reads as a script.
-pub const LONGEST: u64 = 65536;
+/// How many bytes of its standard input a program reads as a script.
+pub const LONGEST: usize = 65536;

@@ -1,52 +1,41 @@
 // A line of output for a line of the script: its name, what came out, and what was expected.
-use crate::text::{name_end, part, until};
+use crate::parts::Line;
 use std::io;
 use std::io::Write;
 
 // The most digits that a number is written with.
 const DIGITS: usize = 16;
 
-// What came out, as bytes.
-pub fn show(to: &mut impl Write, line: &[u8], got: &[u8]) -> io::Result<()> {
-    name(to, line)?;
-    hex(to, got)?;
-    end(to, expected(line))
+/// What came out, as bytes.
+pub fn show(to: &mut impl Write, line: &Line, got: &[u8]) -> io::Result<()> {
+    begin(to, line)?;
+    for byte in got {
+        write!(to, "{byte:02x}")?;
+    }
+    end(to, line)
 }
 
-// What came out, as a number with as many digits as what was expected has.
-pub fn show_number(to: &mut impl Write, line: &[u8], got: u64) -> io::Result<()> {
-    name(to, line)?;
-    let wanted = expected(line);
-    let width = wanted.len().min(DIGITS);
+/// What came out, as a number with as many digits as what was expected has.
+pub fn show_number(to: &mut impl Write, line: &Line, got: u64) -> io::Result<()> {
+    begin(to, line)?;
+    let width = line.expected.len().min(DIGITS);
     write!(to, "{got:0width$x}")?;
-    end(to, wanted)
+    end(to, line)
 }
 
-// The line is no call that the program knows.
-pub fn not_understood(to: &mut impl Write, line: &[u8]) -> io::Result<()> {
-    name(to, line)?;
+/// The line is no call that the program knows.
+pub fn not_understood(to: &mut impl Write, line: &Line) -> io::Result<()> {
+    begin(to, line)?;
     to.write_all(b"not understood\n")
 }
 
-fn name(to: &mut impl Write, line: &[u8]) -> io::Result<()> {
-    to.write_all(part(line, 0, name_end(line)))?;
+fn begin(to: &mut impl Write, line: &Line) -> io::Result<()> {
+    to.write_all(line.name)?;
     to.write_all(b" ")
 }
 
-fn expected(line: &[u8]) -> &[u8] {
-    let equals = until(line, name_end(line), b'=');
-    part(line, equals + 2, line.len())
-}
-
-fn end(to: &mut impl Write, expected: &[u8]) -> io::Result<()> {
+fn end(to: &mut impl Write, line: &Line) -> io::Result<()> {
     to.write_all(b" ")?;
-    to.write_all(expected)?;
+    to.write_all(line.expected)?;
     to.write_all(b"\n")
-}
-
-fn hex(to: &mut impl Write, bytes: &[u8]) -> io::Result<()> {
-    for byte in bytes {
-        write!(to, "{byte:02x}")?;
-    }
-    Ok(())
 }

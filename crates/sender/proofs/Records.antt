@@ -1,17 +1,12 @@
--- The record's key data: both ways between its test and its facts, and its message by its numbers.
+-- The record's key data: its test, as facts.
 -- Assumes nothing.
-use mathlib.Core.Path.{◌≡◌, ap}
-use mathlib.Core.Bool.{true, false}
-use mathlib.Core.List.{List}
-use Prim.Native.Nat.{ℕ, ◌≤◌, ◌<◌}
-use borrow.Author.Tests.{leb-true, le-leb, lt-leb}
-use lib.ListN.{take}
+use mathlib.Core.Path.{◌≡◌}
+use mathlib.Core.Bool.{true}
+use Prim.Native.Nat.{◌≤◌}
+use borrow.Author.Tests.{leb-true}
 use Rattle.numbers.proofs.Tests.{and_left, and_right}
-use Rattle.format.specs.KeyData.{keyed, sound_of}
-use Rattle.format.specs.declared.key_data.Terms.{Terms}
-use Rattle.format.specs.declared.suite.Suite.{Suite}
-use Rattle.message.specs.Sealing.{sealed}
-use Rattle.sender.specs.Protect.{terms_in, key_data_in, sound_record, message_of}
+use Rattle.format.specs.KeyData.{sound_of}
+use Rattle.sender.specs.Protect.{key_data_in, sound_record}
 use Rattle.sender.specs.declared.Keys.{Keys}
 
 module _ (d : Keys) where
@@ -23,21 +18,3 @@ module _ (d : Keys) where
   pub record_facts : sound_record d ≡ true → SoundKeys
   unfolding sound_record
   record_facts h = search (and_left, and_right, leb-true) depth 6
-
-  pub record_long_keyid : 128 < d.keyid_len → false ≡ sound_record d
-  unfolding sound_record
-  record_long_keyid h = rw (lt-leb d.keyid_len 128 h)
-
-  module _ (a : d.keyid_len ≤ 128) where
-    pub record_long_source : 32 < d.source_len → false ≡ sound_record d
-    unfolding sound_record
-    record_long_source h = rw (le-leb d.keyid_len 128 a, lt-leb d.source_len 32 h)
-
-    pub keys_decide : d.source_len ≤ 32 → sound_of (key_data_in d) ≡ sound_record d
-    unfolding sound_record
-    keys_decide b = rw (le-leb d.keyid_len 128 a, le-leb d.source_len 32 b)
-
-  pub of_terms : {terms : Terms} → terms ≡ terms_in d → (suite : Suite) (n : ℕ) (payload : List ℕ)
-      → sealed suite (keyed terms (take d.keyid_len d.keyid) (take d.source_len d.source) d.key) n payload ≡ message_of suite d n payload
-  of_terms e suite n payload =
-      ap (λ (x : Terms). sealed suite (keyed x (take d.keyid_len d.keyid) (take d.source_len d.source) d.key) n payload) e

@@ -1,27 +1,23 @@
 -- Protect (01, "Replies"): 1, 7, 2, 12 in that order. A refusal changes neither the record nor the output. The record has an edition (02, No. 4).
-use Rattle.std.specs.Prelude.{◌≡◌, Bool, ◌&&◌, cond, List, ℕ, ◌+◌, ◌-◌, ◌^◌, eqb, leb, ltb, length, take, None, Option, Some}
+use Rattle.std.specs.Prelude.{◌≡◌, Bool, ◌&&◌, cond, List, ℕ, ◌+◌, ◌-◌, ◌^◌, eqb, leb, ltb, length, take, None, Option, Some, Err, Ok, Result}
 use Rattle.format.specs.Header.{greatest_message, fixed_bytes}
 use Rattle.octets.specs.Octets.{put}
 use Rattle.answers.specs.Answers.{refused, output_room, output_small, bad_length, damaged, no_number}
-use Rattle.format.specs.KeyData.{KeyData, keyed, sound_of}
+use Rattle.format.specs.KeyData.{KeyData, handed_in, sound_of}
 use Rattle.format.specs.Suite.{suite_of, icv_length_of}
 use Rattle.message.specs.Sealing.{sealed}
 use Rattle.answers.specs.declared.Answer.{Answer}
-use Rattle.format.specs.declared.key_data.Terms.{Terms}
+use Rattle.answers.specs.declared.Done.{Done}
+use Rattle.answers.specs.declared.Refusal.{Refusal}
 use Rattle.format.specs.declared.suite.Suite.{Suite}
 use Rattle.sender.specs.declared.Keys.{Keys}
 use Rattle.sender.specs.declared.Sender.{Sender}
-use Rattle.sender.specs.declared.Protected.{Protected}
 
 -- ---- the record
 
--- the numbers of its key data
-abbrev pub terms_in : Keys → Terms
-terms_in d = record { flag = d.flag; suite = d.suite; edition = d.edition }
-
 -- the key data that it holds: of the two arrays, as many bytes as their lengths say
 abbrev pub key_data_in : Keys → KeyData
-key_data_in d = keyed (terms_in d) (take d.keyid_len d.keyid) (take d.source_len d.source) d.key
+key_data_in d = handed_in d.flag (take d.keyid_len d.keyid) (take d.source_len d.source) d.suite d.edition d.key
 
 -- a length that the record has no room for is unsound too
 unfoldable pub sound_record : Keys → Bool
@@ -42,9 +38,10 @@ pub record Outcome : Type 0 where
 abbrev pub refusal : ℕ → Sender → List ℕ → Outcome
 refusal reply s out = record { answer = refused reply; current = s.current; out = out }
 
--- a refusal by value
-abbrev pub refused_at : ℕ → ℕ → Protected
-refused_at reply current = record { answer = refused reply; current = current }
+-- the number that the record holds then: that of the message, or after a refusal its own
+abbrev pub number_after : Result Done Refusal → ℕ → ℕ
+number_after (Ok done) current = done.seqnum
+number_after (Err refusal) current = current
 
 -- the message for number n
 abbrev pub message_of : Suite → Keys → ℕ → List ℕ → List ℕ

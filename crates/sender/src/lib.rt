@@ -2,16 +2,18 @@
 // comes back.
 #![tactic(auto)]
 
-ghost use Rattle.std.specs.Prelude.{◌≡◌, true, ◌&&◌, ◌+◌, ◌^◌, ◌<◌, ◌≤◌, ltb, length};
-ghost use Rattle.format.specs.Header.{greatest_message, fixed_bytes};
-ghost use Rattle.answers.specs.Answers.{output_room, refusal_number};
+ghost use Rattle.std.specs.Prelude.{◌≡◌, ◌&&◌, ◌+◌, ◌^◌, ◌<◌, ◌≤◌, ltb, length};
+ghost use Rattle.std.specs.Bool.{OnTrue};
+ghost use Rattle.answers.specs.Answers.{answer_of, output_room};
 ghost use Rattle.octets.specs.Octets.{put};
 ghost use Rattle.magma.specs.Magma.{key_words};
+ghost use Rattle.format.specs.Header.{greatest_message, fixed_bytes};
 ghost use Rattle.format.specs.Suite.{icv_length_of};
-ghost use Rattle.sender.specs.Protect.{terms_in, key_data_in, sound_record, with_number, message_of, refused_at, Protects};
+ghost use Rattle.sender.specs.Protect.{sound_record, with_number, number_after, message_of, Protects};
 
-use answers::{Answer, Refusal};
-use format::key_data::Terms;
+use answers::{Answer, Done, Refusal};
+use derivation::{Derivation, Purpose};
+use format::key_data::KeyData;
 use format::suite::Suite;
 use format::{header, key_data};
 use message::sealing;
@@ -50,47 +52,47 @@ pub struct Protected {
 pub fn protect_by_value(sender: Sender, payload: &[u8], out: &mut [u8]) -> Protected
     ensures { Protects sender payload.now out.old result.answer (with_number sender result.current) out.new }
 {
-    let keys = sender.keys;
-    let current = sender.current;
-    let keyid_len = keys.keyid_len;
-    let base = base_of(keys);
-    if out.len() < answers::OUTPUT {
-        return refuse(Refusal::OutputSmall, current);
-    }
-    if !is_undamaged(sender) {
-        return refuse(Refusal::Damaged, current);
-    }
-    let Some(suite) = Suite::numbered(keys.suite) else {
-        return refuse(Refusal::Damaged, current);
+    let sent = send(sender, payload, out);
+    let current = match sent {
+        Ok(done) => done.seqnum,
+        Err(_) => sender.current,
     };
-    let longest = header::GREATEST - (header::FIXED + keyid_len + suite.icv_length());
-    if longest < payload.len() {
-        return refuse(Refusal::BadLength, current);
-    }
-    if current == window::LAST {
-        return refuse(Refusal::NoNumber, current);
-    }
-    let next = current + 1;
-    let length = write_message(keys, &base, suite, next, payload, out);
     Protected {
-        answer: Answer {
-            reply: answers::DONE,
-            length: length,
-            slot: 0,
-            seqnum: next,
-        },
-        current: next,
+        answer: sent.into(),
+        current,
     }
 }
 
-// A refusal: the record keeps its number.
-fn refuse(refusal: Refusal, current: u64) -> Protected
-    ensures { result ≡ refused_at (refusal_number refusal) current }
+// Replies 1, 7, 2 and 12 in that order; else the message, with the next number.
+#[tactic(auto, unfolding(crate::specs::Protect::outcome_of, crate::specs::Protect::sent))]
+fn send(sender: Sender, payload: &[u8], out: &mut [u8]) -> Result<Done, Refusal>
+    ensures { Protects sender payload.now out.old (answer_of result) (with_number sender (number_after result sender.current)) out.new }
 {
-    Protected {
-        answer: refusal.into(),
-        current,
+    let keys = sender.keys;
+    let base = base_of(keys);
+    if out.len() < answers::OUTPUT {
+        return Err(Refusal::OutputSmall);
     }
+    if !is_undamaged(sender) {
+        return Err(Refusal::Damaged);
+    }
+    let Some(suite) = Suite::numbered(keys.suite) else {
+        return Err(Refusal::Damaged);
+    };
+    let longest = header::GREATEST - (header::FIXED + keys.keyid_len + suite.icv_length());
+    if longest < payload.len() {
+        return Err(Refusal::BadLength);
+    }
+    if sender.current == window::LAST {
+        return Err(Refusal::NoNumber);
+    }
+    let next = sender.current + 1;
+    let length = write_message(keys, &base, suite, next, payload, out);
+    Ok(Done {
+        length,
+        slot: 0,
+        seqnum: next,
+    })
 }
 
 // The words of a record's key. They are made before the tests, as its bytes would take more stack until after them.
@@ -101,46 +103,33 @@ fn base_of(keys: Keys) -> [u32; 8]
     modes::key_words(&bytes)
 }
 
-// The numbers of a record's key data.
-fn terms_of(keys: Keys) -> Terms
-    ensures { result ≡ terms_in keys }
-{
-    Terms {
-        flag: keys.flag,
-        suite: keys.suite,
-        edition: keys.edition,
-    }
-}
-
 // Whether a record is undamaged: its key data is sound, and its number at most 2^48 - 1.
+#[tactic(auto, unfolding(crate::specs::Protect::sound_record))]
 fn is_undamaged(sender: Sender) -> bool
-    ensures { result ≡ (sound_record sender.keys && ltb sender.current (2 ^ 48)) }
+    ensures answers { result ≡ (sound_record sender.keys && ltb sender.current (2 ^ 48)) }
+    ensures room { OnTrue result ((sender.keys.keyid_len ≤ 128) × (sender.keys.source_len ≤ 32)) }
+    ensures flag { OnTrue result (sender.keys.flag < 2) }
+    ensures number { OnTrue result (sender.current < 2 ^ 48) }
 {
-    let keys = sender.keys;
-    let current = sender.current;
-    if window::LAST < current {
+    let held = sender.keys;
+    let Keys {
+        keyid,
+        source,
+        key,
+        ..
+    } = held;
+    if key_data::GREATEST_KEYID < held.keyid_len || key_data::GREATEST_SOURCE < held.source_len {
         return false;
     }
-    is_sound(keys)
-}
-
-// Whether a record's key data is sound.
-fn is_sound(keys: Keys) -> bool
-    ensures { result ≡ sound_record keys }
-{
-    let keyid = keys.keyid;
-    let source = keys.source;
-    let key = keys.key;
-    let keyid_len = keys.keyid_len;
-    let source_len = keys.source_len;
-    if key_data::GREATEST_KEYID < keyid_len {
-        return false;
-    }
-    if key_data::GREATEST_SOURCE < source_len {
-        return false;
-    }
-    let terms = terms_of(keys);
-    key_data::sound(terms, &keyid[..keyid_len], &source[..source_len], &key)
+    let keys = KeyData {
+        flag: held.flag,
+        keyid: &keyid[..held.keyid_len],
+        source: &source[..held.source_len],
+        suite: held.suite,
+        edition: held.edition,
+        key: &key,
+    };
+    keys.is_sound() && sender.current <= window::LAST
 }
 
 // The message with that number is written at the start of the output. Answers its length.
@@ -152,23 +141,21 @@ fn write_message(
     payload: &[u8],
     out: &mut [u8],
 ) -> usize
-    requires { (key_words keys.key ≡ base.now) × (sound_record keys ≡ true) × (number < 2 ^ 48) × (fixed_bytes + length (key_data_in keys).key_id + length payload.now + icv_length_of suite ≤ greatest_message) × (output_room ≤ length out.old) }
+    requires words { key_words keys.key ≡ base.now }
+    requires room { (keys.keyid_len ≤ 128) × (keys.source_len ≤ 32) }
+    requires flag { keys.flag < 2 }
+    requires number { number < 2 ^ 48 }
+    requires fits { fixed_bytes + keys.keyid_len + length payload.now + icv_length_of suite ≤ greatest_message }
+    requires output_fits { output_room ≤ length out.old }
     ensures value { result ≡ length (message_of suite keys number payload.now) }
     ensures out_after { out.new ≡ put out.old 0 (message_of suite keys number payload.now) }
 {
-    let keyid = keys.keyid;
-    let source = keys.source;
-    let keyid_len = keys.keyid_len;
-    let source_len = keys.source_len;
-    let terms = terms_of(keys);
-    sealing::seal_under(
+    let Keys { keyid, source, .. } = keys;
+    let purpose = Purpose {
         suite,
-        terms,
-        &keyid[..keyid_len],
-        &source[..source_len],
-        base,
-        number,
-        payload,
-        out,
-    )
+        edition: keys.edition,
+        seqnum: number,
+    };
+    let derived = Derivation::new(base, purpose, &source[..keys.source_len]);
+    sealing::seal_under(&derived, keys.flag, &keyid[..keys.keyid_len], payload, out)
 }

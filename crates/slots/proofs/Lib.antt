@@ -4,6 +4,7 @@ pub mod Numbers
 pub mod Rewriting
 pub mod Settled
 pub mod Settling
+pub mod Shown
 pub mod Slots
 pub mod Standing
 pub mod Windows

@@ -13,7 +13,9 @@ use Rattle.octets.proofs.Parts.{part_other, number_own, take_put, drop_put, alik
 use Rattle.octets.proofs.Places.{length_put}
 use Rattle.format.proofs.Soundness.{key_data_is}
 use Rattle.window.specs.Counters.{one_more}
-use Rattle.slots.specs.Table.{slot_of, flag_of, cs_of, edition_of, key_id_length_of, key_id_of, source_length_of, source_of, key_of, key_data_of, frame_of, replaced, raised_in, raised, slot_length, slot_count, table_length, occupied_at, flag_at, suite_at, edition_at, key_id_length_at, key_id_at, key_id_room, source_length_at, source_at, source_room, key_at, size_at, start_at, highest_at, replays_at, spare_at}
+use Rattle.slots.specs.declared.record.Counter.{Counter}
+use Rattle.slots.specs.declared.record.Counter.TheVariants.{Replays, Forged}
+use Rattle.slots.specs.Table.{slot_of, place_of, flag_of, cs_of, edition_of, key_id_length_of, key_id_of, source_length_of, source_of, key_of, key_data_of, frame_of, replaced, raised_in, raised, slot_length, slot_count, table_length, occupied_at, flag_at, suite_at, edition_at, key_id_length_at, key_id_at, key_id_room, source_length_at, source_at, source_room, key_at, size_at, start_at, highest_at, replays_at, spare_at}
 use Rattle.slots.proofs.Replacing.{length_replaced, slot_own}
 use Rattle.slots.proofs.Slots.{length_of_slot, slot_number}
 
@@ -75,6 +77,11 @@ module _ (s : List ℕ) (at : ℕ) (new : List ℕ) (long : length s ≡ slot_le
 
   pub written_around : Around s (put s at new)
   written_around = record { front = take_put s at new room highest_at behind; rest = drop_put s at new room spare_at fits }
+
+-- each counter stands there
+pub place_within : (c : Counter) → (replays_at ≤ place_of c) × (place_of c + 8 ≤ spare_at)
+place_within Replays = (lit≤ tt, lit≤ tt)
+place_within Forged = (lit≤ tt, lit≤ tt)
 
 -- ---- a table
 

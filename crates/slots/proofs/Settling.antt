@@ -9,13 +9,12 @@ use lib.ListN.{length, get_or, take, drop}
 use lib.Seq.{drop-drop}
 use Rattle.numbers.specs.Digits.{from_digits}
 use Rattle.numbers.proofs.FromDigits.{Digits}
-use Rattle.octets.specs.Octets.{big_endian, bytes_of, part, put}
+use Rattle.octets.specs.Octets.{bytes_of, part, put}
 use Rattle.octets.proofs.BigEndian.{length_bytes}
 use Rattle.octets.proofs.Places.{put_four}
-use Rattle.window.specs.Window.{View, accept_of}
-use Rattle.window.specs.Entry.{Entry, taken}
+use Rattle.window.specs.Entry.{Entry}
 use Rattle.words.proofs.FourWords.{four_is}
-use Rattle.slots.specs.Table.{slot_of, window_of, counters_of, entry_of, history_bytes, settled_in, restored_in, replaced, slot_length, highest_at, marks_at, accepted_at, bytes_at, replays_at, forged_at}
+use Rattle.slots.specs.Table.{slot_of, history_bytes, settled_in, restored_in, replaced, slot_length, highest_at, marks_at, accepted_at, bytes_at, replays_at, forged_at}
 use Rattle.slots.proofs.Settled.{by_parts}
 use Rattle.slots.proofs.Windows.{marks_bytes}
 
@@ -32,15 +31,14 @@ marks_put l one two three last at m h n d e f g k =
     ∙ ap (put l at) (sym (ap (λ (x : List ℕ). bytes_of 32 (from_digits 64 x)) (sym (four_is m n)) ∙ marks_bytes _ _ _ (get_or m 3 0) (d 0) (d 1) (d 2)))
 
 -- a slot's window and totals
-pub settled_put : (s one two three last : List ℕ) (w : View) (accepted bytes : ℕ) → length s ≡ slot_length
-    → one ≡ put s highest_at (bytes_of 8 w.highest) → two ≡ put one marks_at (bytes_of 32 w.marks)
-    → three ≡ put two accepted_at (bytes_of 8 accepted) → last ≡ put three bytes_at (bytes_of 8 bytes)
-    → last ≡ settled_in (record { window = w; accepted = accepted; bytes = bytes; counters = counters_of s }) s
-settled_put s one two three last w accepted bytes long e f g k =
+pub settled_put : (s one two three last : List ℕ) (e : Entry) → length s ≡ slot_length
+    → one ≡ put s highest_at (bytes_of 8 e.window.highest) → two ≡ put one marks_at (bytes_of 32 e.window.marks)
+    → three ≡ put two accepted_at (bytes_of 8 e.accepted) → last ≡ put three bytes_at (bytes_of 8 e.bytes) → last ≡ settled_in e s
+settled_put s one two three last e long f g h k =
     put_four s one two three last highest_at marks_at accepted_at bytes_at
-    (bytes_of 8 w.highest) (bytes_of 32 w.marks) (bytes_of 8 accepted) (bytes_of 8 bytes) (omega arith)
+    (bytes_of 8 e.window.highest) (bytes_of 32 e.window.marks) (bytes_of 8 e.accepted) (bytes_of 8 e.bytes) (omega arith)
     (rw length_bytes) (rw length_bytes) (rw length_bytes)
-    e f g k
+    f g h k
 
 -- the counters behind them
 pub restored_put : (s one two last : List ℕ) (e : Entry) → length s ≡ slot_length → one ≡ put s highest_at (history_bytes e)
@@ -49,12 +47,6 @@ pub restored_put : (s one two last : List ℕ) (e : Entry) → length s ≡ slot
 restored_put s one two last e long f g k =
     k ∙ ap (λ (u : List ℕ). put u forged_at (bytes_of 8 e.counters.forged)) (g ∙ ap (λ (u : List ℕ). put u replays_at (bytes_of 8 e.counters.replays)) f)
     ∙ by_parts s e long
-
--- the entry that takes a message, from its totals as they were read and the window that moved
-pub taken_is : (s : List ℕ) (w v : View) (n a b payload : ℕ) → w ≡ window_of s → v ≡ accept_of w n
-    → a ≡ big_endian 8 (drop accepted_at s) → b ≡ big_endian 8 (drop bytes_at s)
-    → record { window = v; accepted = a + 1; bytes = b + payload; counters = counters_of s } ≡ taken (entry_of s) n payload
-taken_is s w v n a b payload e f g h = rw (f, e, g, h)
 
 -- ---- in the table
 

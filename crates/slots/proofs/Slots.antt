@@ -4,24 +4,18 @@ use mathlib.Core.Path.{◌≡◌}
 use mathlib.Core.List.{List}
 use Prim.Native.Nat.{ℕ, ◌+◌, ◌*◌, ◌≤◌, ◌<◌}
 use native.Mathlib.Omega.{arith}
-use lib.ListN.{length, get_or, drop}
+use lib.ListN.{length, drop}
 use Rattle.octets.specs.Octets.{big_endian, part}
-use Rattle.octets.proofs.Parts.{length_part, part_at, part_part, number_in_part}
+use Rattle.octets.proofs.Parts.{length_part, number_in_part}
 use Rattle.slots.specs.Table.{slot_of, slot_length, slot_count, table_length}
 
 module _ (t : List ℕ) (i : ℕ) where
-  pub slot_byte : (k : ℕ) → k < slot_length → get_or (slot_of t i) k 0 ≡ get_or t (slot_length * i + k) 0
-  slot_byte k h = part_at (slot_length * i) slot_length t k h
-
   pub slot_number : (k n : ℕ) → k + n ≤ slot_length → big_endian n (drop k (slot_of t i)) ≡ big_endian n (drop (slot_length * i + k) t)
   slot_number k n h = number_in_part (slot_length * i) slot_length k n t h
 
   module _ (long : length t ≡ table_length) (small : i < slot_count) where
     pub length_of_slot : length (slot_of t i) ≡ slot_length
     length_of_slot = length_part (slot_length * i) slot_length t (omega arith)
-
-    pub slot_part : (k n : ℕ) → k + n ≤ slot_length → part k n (slot_of t i) ≡ part (slot_length * i + k) n t
-    slot_part k n h = part_part (slot_length * i) slot_length k n t h (omega arith)
 
 -- a slot as it is lent, by numbers that are where it begins and its length
 pub lent_length : (t : List ℕ) (i a k : ℕ) → length t ≡ table_length → i < slot_count → a ≡ slot_length * i → k ≡ slot_length → length (part a k t) ≡ slot_length

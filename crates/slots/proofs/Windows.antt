@@ -10,8 +10,9 @@ use Rattle.numbers.specs.Digits.{from_digits}
 use Rattle.octets.specs.Octets.{big_endian, bytes_of}
 use Rattle.octets.proofs.BigEndian.{number_cat, bytes_cat}
 use Rattle.window.specs.declared.Frame.{Frame}
-use Rattle.window.specs.Window.{view_of}
-use Rattle.slots.specs.Table.{frame_of, window_of, highest_at, marks_at}
+use Rattle.window.specs.declared.Counters.{Counters}
+use Rattle.window.specs.Window.{View, view_of}
+use Rattle.slots.specs.Table.{frame_of, window_of, counters_of, entry_of, highest_at, marks_at, accepted_at, bytes_at}
 
 pub marks_read : (at : ℕ) (l : List ℕ)
     → from_digits 64 (big_endian 8 (drop (at + 24) l) ∷ big_endian 8 (drop (at + 16) l) ∷ big_endian 8 (drop (at + 8) l) ∷ big_endian 8 (drop at l) ∷ [])
@@ -45,3 +46,8 @@ pub window_is : (s : List ℕ) {f : Frame} {highest a b c d : ℕ} → f ≡ fra
     → view_of (record { frame = f; highest = highest; marks = a ∷ b ∷ c ∷ d ∷ [] }) ≡ window_of s
 window_is s e g p q r t =
     rw (e, g, p, q, r, t) (ap (λ (m : ℕ). record { frame = frame_of s; highest = big_endian 8 (drop highest_at s); marks = m }) (marks_read marks_at s))
+
+-- the entry of the window and the numbers that were read beside it
+pub entry_is : (s : List ℕ) {w : View} {a b : ℕ} {c : Counters} → w ≡ window_of s → a ≡ big_endian 8 (drop accepted_at s) → b ≡ big_endian 8 (drop bytes_at s)
+    → c ≡ counters_of s → record { window = w; accepted = a; bytes = b; counters = c } ≡ entry_of s
+entry_is s d e g h = rw (d, e, g, h)

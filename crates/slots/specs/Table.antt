@@ -8,6 +8,8 @@ use Rattle.window.specs.declared.Frame.{Frame}
 use Rattle.window.specs.Counters.{one_more}
 use Rattle.window.specs.declared.Counters.{Counters}
 use Rattle.window.specs.Entry.{Entry}
+use Rattle.slots.specs.declared.record.Counter.{Counter}
+use Rattle.slots.specs.declared.record.Counter.TheVariants.{Replays, Forged}
 
 -- ---- the layout
 
@@ -78,6 +80,11 @@ replays_at = 270
 
 abbrev pub forged_at : ℕ
 forged_at = 278
+
+-- where a counter of the code stands
+abbrev pub place_of : Counter → ℕ
+place_of Replays = replays_at
+place_of Forged = forged_at
 
 -- two bytes of a slot that nothing uses
 abbrev pub spare_at : ℕ

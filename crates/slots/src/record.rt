@@ -1,22 +1,41 @@
 // An entry's parts in its slot: read, checked by the damage rule, and written back.
-ghost use Rattle.std.specs.Prelude.{IsTrue, ◌↔◌, true, ◌≡◌, ◌+◌, ◌≤◌, ◌<◌, length, drop};
+ghost use Rattle.std.specs.Prelude.{IsTrue, ◌↔◌, ◌≡◌, ◌+◌, ◌≤◌, ◌<◌, length, drop};
 ghost use Rattle.format.specs.Header.{greatest_message};
 ghost use Rattle.numbers.specs.Digits.{from_digits};
 ghost use Rattle.octets.specs.Octets.{big_endian, bytes_of, put};
 ghost use Rattle.format.specs.KeyData.{sound_of};
 ghost use Rattle.window.specs.Window.{view_of, verdict_of};
-ghost use Rattle.window.specs.Entry.{taken};
+ghost use Rattle.window.specs.Entry.{entry_view, taken};
 ghost use Rattle.window.specs.declared.Verdict.TheVariants.{Admissible};
-ghost use Rattle.slots.specs.Table.{slot_of, occupied, flag_of, cs_of, edition_of, key_id_length_of, key_id_room, key_id_of, source_of, source_length_of, source_room, key_of, frame_of, window_of, counters_of, entry_of, settled_in, settled, restored, raised, slot_length, accepted_at, bytes_at, marks_at, replays_at, spare_at, key_data_of};
-ghost use Rattle.slots.specs.Record.{undamaged};
+ghost use Rattle.slots.specs.Table.{slot_of, place_of, occupied, flag_of, cs_of, edition_of, key_id_length_of, key_id_room, key_id_of, source_of, source_length_of, source_room, key_of, frame_of, window_of, counters_of, entry_of, settled_in, settled, restored, raised, slot_length, accepted_at, bytes_at, marks_at, replays_at, spare_at, key_data_of};
+ghost use Rattle.slots.specs.Record.{undamaged, IsUndamagedAs};
 
 use crate::index::SlotIndex;
 use crate::layout;
 use crate::layout::{SLOT, TABLE};
 use format::key_data;
-use format::key_data::Terms;
+use format::key_data::KeyData;
 use std::marker::Model;
-use window::{Counters, Frame, Window};
+use window::{Counters, Entry, Frame, Window};
+
+/// A counter of refused arrivals.
+#[derive(Clone, Copy, Debug, PartialEq, Eq)]
+pub enum Counter {
+    Replays,
+    Forged,
+}
+
+impl Counter {
+    // Where it stands in a slot.
+    fn place(self) -> usize
+        ensures { result ≡ place_of self }
+    {
+        match self {
+            Counter::Replays => layout::REPLAYS,
+            Counter::Forged => layout::FORGED,
+        }
+    }
+}
 
 /// A slot of a table, read.
 #[derive(Drop)]
@@ -42,12 +61,6 @@ impl<'a> Slot<'a> {
         let from = slot.offset();
         let content: &'a [u8; SLOT] = table[from..from + SLOT].try_into().unwrap();
         Slot { content }
-    }
-
-    pub fn content(&self) -> &'a [u8; SLOT]
-        ensures { result.now ≡ self.now }
-    {
-        self.content
     }
 
     pub fn is_occupied(&self) -> bool
@@ -116,19 +129,20 @@ impl<'a> Slot<'a> {
         }
     }
 
-    pub fn window(&self) -> Window
-        ensures { view_of result ≡ window_of self.now }
+    /// The six lowest bytes of its highest number.
+    pub fn highest_bytes(&self) -> &'a [u8]
+        ensures { result.now ≡ bytes_of 6 (window_of self.now).highest }
     {
-        Window {
-            frame: self.frame(),
-            highest: self.number(layout::HIGHEST),
-            marks: [
-                self.number(layout::MARKS + 24),
-                self.number(layout::MARKS + 16),
-                self.number(layout::MARKS + 8),
-                self.number(layout::MARKS),
-            ],
-        }
+        let content = self.content;
+        highest_in(content)
+    }
+
+    /// The bytes of its marks.
+    pub fn marks_bytes(&self) -> &'a [u8]
+        ensures { result.now ≡ bytes_of 32 (window_of self.now).marks }
+    {
+        let content = self.content;
+        marks_in(content)
     }
 
     pub fn accepted(&self) -> u64
@@ -152,6 +166,27 @@ impl<'a> Slot<'a> {
         }
     }
 
+    /// Its window, totals and counters.
+    pub fn entry(&self) -> Entry
+        ensures { entry_view result ≡ entry_of self.now }
+    {
+        Entry {
+            window: Window {
+                frame: self.frame(),
+                highest: self.number(layout::HIGHEST),
+                marks: [
+                    self.number(layout::MARKS + 24),
+                    self.number(layout::MARKS + 16),
+                    self.number(layout::MARKS + 8),
+                    self.number(layout::MARKS),
+                ],
+            },
+            accepted: self.accepted(),
+            bytes: self.bytes(),
+            counters: self.counters(),
+        }
+    }
+
     /// Whether its key data is sound.
     pub fn is_sound(&self) -> bool
         ensures { result ≡ sound_of (key_data_of self.now) }
@@ -160,30 +195,33 @@ impl<'a> Slot<'a> {
         if key_data::GREATEST_SOURCE < content[layout::SOURCE_LENGTH] as usize {
             return false;
         }
-        let terms = Terms {
+        let keys = KeyData {
             flag: self.flag(),
+            keyid: self.keyid(),
+            source: self.source(),
             suite: self.suite(),
             edition: self.edition(),
+            key: self.key(),
         };
-        key_data::sound(terms, self.keyid(), self.source(), self.key())
+        keys.is_sound()
     }
 
     /// Whether the damage rule finds nothing in it.
     pub fn is_undamaged(&self) -> bool
         ensures { result ≡ undamaged self.now }
     {
-        self.is_undamaged_by(self.window())
+        self.is_undamaged_by(&self.entry())
     }
 
-    /// The same where its window has been read.
-    pub fn is_undamaged_by(&self, window: Window) -> bool
-        requires { view_of window ≡ window_of self.now }
+    /// The same where its entry has been read.
+    pub fn is_undamaged_by(&self, entry: &Entry) -> bool
+        requires { entry_view entry.now ≡ entry_of self.now }
         ensures { result ≡ undamaged self.now }
     {
         if !self.is_sound() {
             return false;
         }
-        window::undamaged_entry(window, self.accepted(), self.bytes(), self.counters())
+        entry.is_undamaged()
     }
 
     // The number in the eight bytes from `at` on.
@@ -196,68 +234,71 @@ impl<'a> Slot<'a> {
     }
 }
 
-/// The entry in a slot takes a message: a number that its window finds admissible, and a payload of so many bytes.
-pub fn take(table: &mut [u8; TABLE], slot: SlotIndex, window: Window, number: u64, payload: usize)
-    requires short { payload ≤ greatest_message }
-    requires is_undamaged { undamaged (slot_of table.old slot) ≡ true }
-    requires same_window { view_of window ≡ window_of (slot_of table.old slot) }
-    requires admissible { verdict_of (view_of window) number ≡ Admissible }
-    ensures { table.new ≡ settled table.old slot (taken (entry_of (slot_of table.old slot)) number payload) }
+// The same of a slot's bytes.
+fn highest_in(content: &[u8]) -> &[u8]
+    requires { length content.now ≡ slot_length }
+    ensures { result.now ≡ bytes_of 6 (window_of content.now).highest }
 {
-    let held = Slot::at(table, slot);
-    let accepted = held.accepted() + 1;
-    let bytes = held.bytes() + payload as u64;
-    let from = slot.offset();
-    settle(
-        &mut table[from..from + SLOT],
-        window.accept(number),
-        accepted,
-        bytes,
-    );
+    &content[layout::HIGHEST + 2..layout::MARKS]
 }
 
-/// One refusal more in a counter of the entry in a slot: the one that stands at that place of it.
-pub fn raise(table: &mut [u8; TABLE], slot: SlotIndex, counter: usize)
-    requires { (replays_at ≤ counter) × (counter + 8 ≤ spare_at) }
-    ensures { table.new ≡ raised table.old slot counter }
+fn marks_in(content: &[u8]) -> &[u8]
+    requires { length content.now ≡ slot_length }
+    ensures { result.now ≡ bytes_of 32 (window_of content.now).marks }
 {
-    let refused = Slot::at(table, slot).number(counter);
+    &content[layout::MARKS..layout::ACCEPTED]
+}
+
+/// The entry in a slot, as it was read, takes a message: a number that its window finds admissible, and a payload of so many bytes. Not
+/// copied into its caller, in whose frame the entry that is written would have its place while the message is opened.
+#[inline(never)]
+pub fn take(table: &mut [u8; TABLE], slot: SlotIndex, entry: &Entry, number: u64, payload: usize)
+    requires short { payload ≤ greatest_message }
+    requires is_undamaged { IsUndamagedAs (entry_view entry.now) (slot_of table.old slot) }
+    requires admissible { verdict_of (view_of entry.now.window) number ≡ Admissible }
+    ensures { table.new ≡ settled table.old slot (taken (entry_of (slot_of table.old slot)) number payload) }
+{
+    let from = slot.offset();
+    settle(&mut table[from..from + SLOT], &entry.taken(number, payload));
+}
+
+/// One refusal more in a counter of the entry in a slot.
+pub fn raise(table: &mut [u8; TABLE], slot: SlotIndex, counter: Counter)
+    ensures { table.new ≡ raised table.old slot (place_of counter) }
+{
+    let place = counter.place();
+    let refused = Slot::at(table, slot).number(place);
     let from = slot.offset();
     octets::write(
         &mut table[from..from + SLOT],
-        counter,
+        place,
         8,
         window::one_more(refused),
     );
 }
 
-/// The window, the totals and the counters of an entry are written into its slot.
-pub fn restore(
-    table: &mut [u8; TABLE],
-    slot: SlotIndex,
-    window: Window,
-    accepted: u64,
-    bytes: u64,
-    counters: Counters,
-)
-    ensures { table.new ≡ restored table.old slot (record { window = view_of window; accepted = accepted; bytes = bytes; counters = counters }) }
+/// The window, the totals and the counters of an entry are written into its slot; the frame stays.
+pub fn restore(table: &mut [u8; TABLE], slot: SlotIndex, entry: &Entry)
+    ensures { table.new ≡ restored table.old slot (entry_view entry.now) }
 {
     let from = slot.offset();
     let held = &mut table[from..from + SLOT];
-    settle(held, window, accepted, bytes);
+    settle(held, entry);
+    let counters = entry.counters;
     octets::write(held, layout::REPLAYS, 8, counters.replays);
     octets::write(held, layout::FORGED, 8, counters.forged);
 }
 
-// The window and the totals of an entry are written into its slot; its counters stay.
-fn settle(slot: &mut [u8], window: Window, accepted: u64, bytes: u64)
+// Of an entry the window and the totals are written into its slot; frame and counters stay.
+fn settle(slot: &mut [u8], entry: &Entry)
     requires { length slot.old ≡ slot_length }
-    ensures { slot.new ≡ settled_in (record { window = view_of window; accepted = accepted; bytes = bytes; counters = counters_of slot.old }) slot.old }
+    ensures { slot.new ≡ settled_in (entry_view entry.now) slot.old }
 {
+    let window = entry.window;
     octets::write(slot, layout::HIGHEST, 8, window.highest);
     write_marks(slot, window.marks);
-    octets::write(slot, layout::ACCEPTED, 8, accepted);
-    octets::write(slot, layout::BYTES, 8, bytes);
+    octets::write(slot, layout::ACCEPTED, 8, entry.accepted);
+    octets::write(slot, layout::BYTES, 8, entry.bytes);
 }
 
 // A window's marks are written as one number of 32 bytes.

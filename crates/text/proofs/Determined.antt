@@ -1,37 +1,31 @@
--- What a reader of a line answers is settled by the text and what is to be read there: two answers that its contract allows are equal.
+-- What a reader of a line answers is settled by the text: two answers that its contract allows have the same value and leave the same text, or both are none.
 -- Assumes nothing.
-use mathlib.Core.Path.{◌≡◌, refl, sym, ap, ap₂, ◌∙◌}
+use mathlib.Core.Path.{◌≡◌, refl, sym, ap₂, ◌∙◌}
 use mathlib.Core.List.{List}
-use Prim.Native.Nat.{ℕ, ◌≤◌}
-use native.Mathlib.Omega.{arith}
-use lib.ListN.{length, drop, length-drop}
-use Rattle.text.specs.Reading.{Read}
-use Rattle.text.specs.Found.{FindsNumber, FindsSpan}
-use Rattle.text.proofs.ReadPrinted.{got_value, got_rest, never}
-use Rattle.text.proofs.Unhexed.{length_unhexed}
+use Prim.Native.Nat.{ℕ}
 use Rattle.std.specs.Prelude.{Option, Some, None}
-use Rattle.text.specs.declared.reading.Hex.{Hex}
+use Rattle.std.specs.Borrow.{Bor}
+use Rattle.text.specs.Reading.{Read}
+use Rattle.text.specs.Found.{found}
+use Rattle.text.proofs.ReadPrinted.{got_value, got_rest, never}
 
--- a place within the text is settled by what is left there
-same_place : (text : List ℕ) (p q : ℕ) → p ≤ length text → q ≤ length text → drop p text ≡ drop q text → p ≡ q
-same_place text p q h k e = omega (arith, ap length e, length-drop p text, length-drop q text)
+-- an answer without the places where it stands
+abbrev pub answered : {A : Type 0} → Option (A × Bor (List ℕ)) → Option (A × List ℕ)
+answered (Some (value, rest)) = Some (value, rest.now)
+answered None = None
 
-pub number_determined : (text : List ℕ) (o : Read ℕ) (a b : Option (ℕ × ℕ)) → FindsNumber text o a → FindsNumber text o b → a ≡ b
-number_determined text o (Some (x, p)) (Some (y, q)) a b =
-    let same = sym a.0 ∙ b.0 in
-    ap₂ (λ (y z : ℕ). Some (y, z)) (got_value same) (same_place text p q a.1 b.1 (got_rest same))
-number_determined text o (Some (x, p)) None a b = never (sym b ∙ a.0)
-number_determined text o None (Some (y, q)) a b = never (sym a ∙ b.0)
-number_determined text o None None a b = refl
+pub determined : {A : Type 0} (o : Read A) (a b : Option (A × Bor (List ℕ))) → found a ≡ o → found b ≡ o → answered a ≡ answered b
+determined {A} o (Some (x, p)) (Some (y, q)) a b =
+    let same = a ∙ sym b in
+    ap₂ (λ (v : A) (l : List ℕ). Some (v, l)) (got_value same) (got_rest same)
+determined o (Some (x, p)) None a b = never (b ∙ sym a)
+determined o None (Some (y, q)) a b = never (a ∙ sym b)
+determined o None None a b = refl
 
-pub span_determined : (text : List ℕ) (o : Read (List ℕ)) (a b : Option (Hex × ℕ)) → FindsSpan text o a → FindsSpan text o b → a ≡ b
-span_determined text o (Some (x, p)) (Some (y, q)) a b =
-    let same = sym a.0 ∙ b.0 in
-    let next : p ≡ q = same_place text p q a.1 b.1 (got_rest same) in
-    let count : x.count ≡ y.count =
-    sym (length_unhexed x.count (drop x.at text)) ∙ ap (λ (l : List ℕ). length l) (got_value same) ∙ length_unhexed y.count (drop y.at text) in
-    let at : x.at ≡ y.at = omega (arith, a.2, b.2) in
-    ap₂ (λ (h : Hex) (n : ℕ). Some (h, n)) (ap₂ (λ (m n : ℕ). record { at = m; count = n }) at count) next
-span_determined text o (Some (x, p)) None a b = never (sym b ∙ a.0)
-span_determined text o None (Some (y, q)) a b = never (sym a ∙ b.0)
-span_determined text o None None a b = refl
+-- of a number
+pub number_determined : (o : Read ℕ) (a b : Option (ℕ × Bor (List ℕ))) → found a ≡ o → found b ≡ o → answered a ≡ answered b
+number_determined o a b p q = determined o a b p q
+
+-- of bytes in hex
+pub span_determined : (o : Read (List ℕ)) (a b : Option (List ℕ × Bor (List ℕ))) → found a ≡ o → found b ≡ o → answered a ≡ answered b
+span_determined o a b p q = determined o a b p q

@@ -1,19 +1,36 @@
--- Reading a decimal, byte by byte: the line feed, a byte that may not follow, a digit more, and the end of the text; and a whole line.
+-- Reading a decimal, byte by byte: the line feed, a byte that may not follow, a digit more, and the end of the text; and the name of a line.
 -- Assumes nothing.
-use mathlib.Core.Path.{◌≡◌, sym, ap, ◌∙◌}
-use mathlib.Core.Bool.{true, false, ◌&&◌, not}
-use mathlib.Core.List.{List, ◌∷◌}
+use mathlib.Core.Path.{◌≡◌, refl, sym, ◌∙◌}
+use mathlib.Core.Bool.{Bool, true, false, cond, ◌&&◌, not}
+use mathlib.Core.List.{List, [], ◌∷◌}
 use Prim.Native.Nat.{ℕ, ◌+◌, ◌*◌, ◌-◌, ◌≤◌, ◌<◌}
 use native.Mathlib.Numerals.{add-one}
 use native.Mathlib.Omega.{arith}
 use borrow.Author.Tests.{eq-eqb, ne_eqb, le-leb, leb-true, eqb-false, not-true}
 use lib.Dec.{eqb, leb}
-use lib.ListN.{length, get_or, take, drop, drop_of_length-le, length-take, length-drop}
-use lib.Seq.{drop-cons, drop-drop}
+use lib.ListN.{length, get_or, take, drop, drop_of_length-le}
+use lib.Pointwise.{pointwise}
+use lib.Seq.{drop-cons}
+use Rattle.std.specs.Prelude.{Some, None}
 use Rattle.numbers.proofs.Tests.{and_left, and_right}
-use Rattle.octets.specs.Octets.{same}
-use Rattle.octets.proofs.Same.{same_true}
+use Rattle.octets.proofs.Same.{same_is}
 use Rattle.text.specs.Reading.{Read, failed, got, named, is_digit, may_follow, read_digits, read_decimal, greatest_decimal}
+use Rattle.text.specs.Found.{next_of}
+
+-- a digit that may follow, and one that may not
+none_next : (x c : ℕ) → None ≡ next_of x c → may_follow x c ≡ false
+none_next x c e = by (may_follow x c) refl e
+  where
+    by : (b : Bool) → may_follow x c ≡ b → None ≡ cond b (Some (x * 10 + (c - 48))) None → may_follow x c ≡ false
+    by true p q = cc
+    by false p q = p
+
+some_next : (x c y : ℕ) → Some y ≡ next_of x c → (may_follow x c ≡ true) × (y ≡ x * 10 + (c - 48))
+some_next x c y e = by (may_follow x c) refl e
+  where
+    by : (b : Bool) → may_follow x c ≡ b → Some y ≡ cond b (Some (x * 10 + (c - 48))) None → (may_follow x c ≡ true) × (y ≡ x * 10 + (c - 48))
+    by true p q = (p, cc)
+    by false p q = cc
 
 module _ (text : List ℕ) (x i : ℕ) (h : i < length text) where
   next : read_digits x (drop i text) ≡ read_digits x (get_or text i 0 ∷ drop (i + 1) text)
@@ -24,14 +41,15 @@ module _ (text : List ℕ) (x i : ℕ) (h : i < length text) where
   ends e = next ∙ rw (eq-eqb (get_or text i 0) 10 e)
 
   module _ (other : get_or text i 0 ≡ 10 → ⊥) where
-    pub stops : may_follow x (get_or text i 0) ≡ false → read_digits x (drop i text) ≡ failed
+    pub stops : None ≡ next_of x (get_or text i 0) → read_digits x (drop i text) ≡ failed
     unfolding read_digits
-    stops e = next ∙ rw (ne_eqb (get_or text i 0) 10 other, e)
+    stops e = next ∙ rw (ne_eqb (get_or text i 0) 10 other, none_next x (get_or text i 0) e)
 
-    pub goes : may_follow x (get_or text i 0) ≡ true
-        → read_digits x (drop i text) ≡ read_digits (x * 10 + (get_or text i 0 - 48)) (drop (i + 1) text)
+    pub goes : {y : ℕ} → Some y ≡ next_of x (get_or text i 0) → read_digits x (drop i text) ≡ read_digits y (drop (i + 1) text)
     unfolding read_digits
-    goes e = next ∙ rw (ne_eqb (get_or text i 0) 10 other, e)
+    goes {y} e =
+        let n = some_next x (get_or text i 0) y e in
+        next ∙ rw (ne_eqb (get_or text i 0) 10 other, n.0, n.1)
 
 pub past : (text : List ℕ) (x i : ℕ) → length text ≤ i → read_digits x (drop i text) ≡ failed
 unfolding read_digits
@@ -62,29 +80,23 @@ follows x c e =
 
 -- ---- a line
 
-module _ (name text : List ℕ) (at : ℕ) where
-  pub other_name : {A : Type 0} (f : List ℕ → Read A) → same (take (length name) (drop at text)) name ≡ false → named name f (drop at text) ≡ failed
-  other_name f e = rw e
+module _ (name text : List ℕ) {A : Type 0} (f : List ℕ → Read A) where
+  pub other_name : pointwise eqb (take (length name) text) name ≡ false → failed ≡ named name f text
+  other_name e = sym (rw (← same_is (take (length name) text) name, e))
 
-  pub this_name : {A : Type 0} (f : List ℕ → Read A) → same (take (length name) (drop at text)) name ≡ true
-      → named name f (drop at text) ≡ f (drop (at + length name) text)
-  this_name f e = rw (e, drop-drop)
+  pub this_name : {rest : List ℕ} → pointwise eqb (take (length name) text) name ≡ true → rest ≡ drop (length name) text → f rest ≡ named name f text
+  this_name e r = sym (rw (← same_is (take (length name) text) name, e, ← r))
 
-  -- a name that stands there has room there
-  pub room : at ≤ length text → same (take (length name) (drop at text)) name ≡ true → at + length name ≤ length text
-  room h e =
-      let long = ap length (same_true (take (length name) (drop at text)) name e) in
-      omega (arith, length-take (length name) (drop at text), length-drop at text, long)
+pub no_more : (l : List ℕ) → length l ≡ 0 → failed ≡ read_decimal l
+unfolding read_decimal
+no_more [] e = refl
+no_more (c ∷ l) e = absurd (omega arith)
 
-module _ (text : List ℕ) (at : ℕ) where
-  pub no_more : length text ≤ at → read_decimal (drop at text) ≡ failed
+module _ {l rest : List ℕ} {c : ℕ} (first : l ≡ c ∷ rest) where
+  pub no_digit : false ≡ is_digit c → failed ≡ read_decimal l
   unfolding read_decimal
-  no_more h = rw (drop_of_length-le text {i = at} h)
+  no_digit e = sym (rw (first, ← e))
 
-  pub no_digit : at < length text → is_digit (get_or text at 0) ≡ false → read_decimal (drop at text) ≡ failed
+  pub a_digit : true ≡ is_digit c → read_digits (c - 48) rest ≡ read_decimal l
   unfolding read_decimal
-  no_digit h e = rw (drop-cons text at 0 h, e)
-
-  pub a_digit : at < length text → is_digit (get_or text at 0) ≡ true → read_decimal (drop at text) ≡ read_digits (get_or text at 0 - 48) (drop (at + 1) text)
-  unfolding read_decimal
-  a_digit h e = rw (drop-cons text at 0 h, e, add-one)
+  a_digit e = sym (rw (first, ← e))

@@ -1,82 +1,51 @@
--- Reading bytes in hex, pair by pair: the line feed, a pair that is none, a pair more, and the end of the text.
+-- Reading bytes in hex: the digits go on to the first byte that is none, and there, behind pairs, a line feed must stand.
 -- Assumes nothing.
 use mathlib.Core.Path.{◌≡◌, refl, sym, ap, ◌∙◌}
-use mathlib.Core.Bool.{true, false, and-false}
-use mathlib.Core.List.{List, [], ◌∷◌, ◌++◌, append-nil}
-use Prim.Native.Nat.{ℕ, suc, ◌+◌, ◌*◌, ◌-◌, ◌≤◌, ◌<◌}
-use native.Mathlib.Numerals.{add-one}
+use mathlib.Core.Bool.{true, false, true≢false, and-false}
+use mathlib.Core.List.{List, [], ◌∷◌}
+use Prim.Native.Nat.{ℕ, zero, suc, ◌%◌, ◌<◌}
 use native.Mathlib.Omega.{arith}
-use borrow.Author.Tests.{ne_eqb}
-use lib.ListN.{length, get_or, drop, drop_of_length-le}
-use lib.Seq.{drop-cons, get_or-drop, append_snoc}
-use Rattle.text.specs.Reading.{Read, failed, got, is_hex, with_first, read_hex}
+use borrow.Author.Tests.{ne_eqb, eq-eqb}
+use lib.ListN.{length, get_or, take, drop}
+use Rattle.text.specs.Reading.{failed, got, is_hex, read_hex}
 use Rattle.text.specs.Found.{unhexed}
 
--- bytes before those that are read
-abbrev pub ahead : List ℕ → Read (List ℕ) → Read (List ℕ)
-ahead u failed = failed
-ahead u (got bytes l) = got (u ++ bytes) l
+-- the first i bytes are digits
+abbrev pub Run : List ℕ → ℕ → Type 0
+Run text i = (k : ℕ) → k < i → is_hex (get_or text k 0) ≡ true
 
-ahead_first : (u : List ℕ) (x : ℕ) (o : Read (List ℕ)) → ahead u (with_first x o) ≡ ahead (u ++ (x ∷ [])) o
-ahead_first u x failed = refl
-ahead_first u x (got bytes l) = ap (λ (v : List ℕ). got v l) (sym (append_snoc u x bytes))
+-- a line feed is none
+no_feed : (c : ℕ) → is_hex c ≡ true → c ≡ 10 → ⊥
+no_feed c h e = true≢false (sym h ∙ ap is_hex e)
 
--- none before it
-pub none_ahead : (o : Read (List ℕ)) → o ≡ ahead [] o
-none_ahead failed = refl
-none_ahead (got bytes l) = refl
+pub whole : (text : List ℕ) (i : ℕ) → i < length text → Run text i → i % 2 ≡ 0 → get_or text i 0 ≡ 10
+    → got (unhexed (take i text)) (drop (suc i) text) ≡ read_hex text
+unfolding read_hex unhexed
+whole [] i h r even feed = absurd (omega arith)
+whole (a ∷ []) zero h r even feed = sym (rw (eq-eqb a 10 feed))
+whole (a ∷ []) (suc i) h r even feed = absurd (omega arith)
+whole (a ∷ b ∷ text) zero h r even feed = sym (rw (eq-eqb a 10 feed))
+whole (a ∷ b ∷ text) (suc zero) h r even feed = absurd (omega arith)
+whole (a ∷ b ∷ text) (suc (suc i)) h r even feed =
+    let rest = whole text i (omega arith) (λ k j. r (suc (suc k)) (omega arith)) (omega arith) feed in
+    sym (rw (ne_eqb a 10 (no_feed a (r 0 (omega arith))), r 0 (omega arith), r 1 (omega arith), ← rest))
 
--- count pairs of the text from `at` are read, and i is behind them
-pub record Passed (text : List ℕ) (at count i : ℕ) : Type 0 where
-  pub place : i ≡ at + 2 * count
-  pub is : read_hex (drop at text) ≡ ahead (unhexed count (drop at text)) (read_hex (drop i text))
+pub broken : (text : List ℕ) (i : ℕ) → i < length text → Run text i → is_hex (get_or text i 0) ≡ false → (get_or text i 0 ≡ 10 → i % 2 ≡ 0 → ⊥)
+    → failed ≡ read_hex text
+unfolding read_hex
+broken [] i h r none bad = absurd (omega arith)
+broken (a ∷ []) zero h r none bad = sym (rw (ne_eqb a 10 (λ e. bad e refl)))
+broken (a ∷ []) (suc i) h r none bad = absurd (omega arith)
+broken (a ∷ b ∷ text) zero h r none bad = sym (rw (ne_eqb a 10 (λ e. bad e refl), none))
+broken (a ∷ b ∷ text) (suc zero) h r none bad = sym (rw (ne_eqb a 10 (no_feed a (r 0 (omega arith))), none, and-false))
+broken (a ∷ b ∷ text) (suc (suc i)) h r none bad =
+    let rest = broken text i (omega arith) (λ k j. r (suc (suc k)) (omega arith)) none (λ e even. bad e (omega arith)) in
+    sym (rw (ne_eqb a 10 (no_feed a (r 0 (omega arith))), r 0 (omega arith), r 1 (omega arith), ← rest))
 
-pub none_passed : (text : List ℕ) (at : ℕ) → Passed text at 0 at
-unfolding unhexed
-none_passed text at = record { place = omega arith; is = none_ahead _ }
-
-module _ (text : List ℕ) (at count i : ℕ) (p : Passed text at count i) where
-  pub out_of_text : length text ≤ i → read_hex (drop at text) ≡ failed
-  unfolding read_hex
-  out_of_text h = p.is ∙ rw (drop_of_length-le text {i = i} h)
-
-  module _ (h : i < length text) where
-    at_feed : (l : List ℕ) → read_hex (10 ∷ l) ≡ got [] l
-    unfolding read_hex
-    at_feed [] = refl
-    at_feed (b ∷ l) = refl
-
-    pub feed : get_or text i 0 ≡ 10 → read_hex (drop at text) ≡ got (unhexed count (drop at text)) (drop (i + 1) text)
-    feed e = p.is ∙ rw (drop-cons text i 0 h, e, at_feed, append-nil, add-one)
-
-    module _ (other : get_or text i 0 ≡ 10 → ⊥) where
-      pub lone : length text - i < 2 → read_hex (drop at text) ≡ failed
-      unfolding read_hex
-      lone k = p.is ∙ rw (drop-cons text i 0 h, drop_of_length-le text {i = suc i} (omega arith), ne_eqb (get_or text i 0) 10 other)
-
-      module _ (two : 2 ≤ length text - i) where
-        pair : drop i text ≡ get_or text i 0 ∷ get_or text (i + 1) 0 ∷ drop (i + 2) text
-        pair =
-            let behind : suc (i + 1) ≡ i + 2 = omega arith in
-            drop-cons text i 0 h ∙ ap (λ (l : List ℕ). get_or text i 0 ∷ l) (rw (← add-one i, drop-cons text (i + 1) 0 (omega arith), behind))
-
-        pub no_first : is_hex (get_or text i 0) ≡ false → read_hex (drop at text) ≡ failed
-        unfolding read_hex
-        no_first e = p.is ∙ rw (pair, ne_eqb (get_or text i 0) 10 other, e)
-
-        pub no_second : is_hex (get_or text (i + 1) 0) ≡ false → read_hex (drop at text) ≡ failed
-        unfolding read_hex
-        no_second e = p.is ∙ rw (pair, ne_eqb (get_or text i 0) 10 other, e, and-false)
-
-        pub one_passed : is_hex (get_or text i 0) ≡ true → is_hex (get_or text (i + 1) 0) ≡ true → Passed text at (count + 1) (i + 2)
-        unfolding read_hex unhexed
-        one_passed e f =
-            let first : get_or (drop at text) (2 * count) 0 ≡ get_or text i 0 = get_or-drop at text (2 * count) 0 ∙ ap (λ (j : ℕ). get_or text j 0) (sym p.place) in
-            let second : get_or (drop at text) (2 * count + 1) 0 ≡ get_or text (i + 1) 0 = get_or-drop at text (2 * count + 1) 0 ∙ ap (λ (j : ℕ). get_or text j 0) (omega (arith, p.place)) in
-            record {
-              place = omega (arith, p.place);
-              is =
-                  p.is
-                  ∙ rw (pair, ne_eqb (get_or text i 0) 10 other, e, f)
-                  (ahead_first (unhexed count (drop at text)) _ (read_hex (drop (i + 2) text)) ∙ rw (add-one count, first, second));
-            }
+pub endless : (text : List ℕ) → Run text (length text) → failed ≡ read_hex text
+unfolding read_hex
+endless [] r = refl
+endless (a ∷ []) r = sym (rw (ne_eqb a 10 (no_feed a (r 0 (omega arith)))))
+endless (a ∷ b ∷ text) r =
+    let rest = endless text (λ k j. r (suc (suc k)) (omega arith)) in
+    sym (rw (ne_eqb a 10 (no_feed a (r 0 (omega arith))), r 0 (omega arith), r 1 (omega arith), ← rest))

@@ -68,10 +68,10 @@ pub record HexBack (l u rest : List ℕ) : Type 0 where
   pub is : l ≡ hex_of u ++ (10 ∷ rest)
   pub bytes : Bytes u
 
-no_bytes : Bytes []
+pub no_bytes : Bytes []
 no_bytes i = lit< tt
 
-one_byte : (x : ℕ) (u : List ℕ) → x < 256 → Bytes u → Bytes (x ∷ u)
+pub one_byte : (x : ℕ) (u : List ℕ) → x < 256 → Bytes u → Bytes (x ∷ u)
 one_byte x u h b zero = h
 one_byte x u h b (suc i) = b i
 

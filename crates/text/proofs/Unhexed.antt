@@ -1,57 +1,108 @@
--- The bytes that pairs of digits write: how many, each by its place in the text, and the numbers that they write.
+-- The bytes that digits in hex write: how many, of two stretches, of a part, and that they are bytes.
 -- Assumes nothing.
 use mathlib.Core.Path.{◌≡◌, refl, sym, ap, ◌∙◌}
 use mathlib.Core.List.{List, [], ◌∷◌, ◌++◌}
-use Prim.Native.Nat.{ℕ, zero, suc, ◌+◌, ◌*◌, ◌≤◌, ◌<◌}
-use native.Mathlib.Decide.{dec_lt}
+use Prim.Native.Nat.{ℕ, zero, suc, ◌+◌, ◌*◌, ◌/◌, ◌%◌, ◌<◌}
 use native.Mathlib.Omega.{arith}
-use lib.Dec.{lit<}
-use lib.ListN.{length, get_or, drop, length-append, get_or-append, get_or-eq_default}
-use lib.Seq.{get_or-drop, get_or_at}
-use Rattle.octets.specs.Octets.{Bytes, big_endian}
-use Rattle.octets.proofs.Parts.{number_same}
-use Rattle.text.specs.Found.{pair_from, unhexed}
+use lib.ListN.{length, get_or, take, drop, length-append, length-take, length-drop, get_or-append}
+use lib.Seq.{get_or-drop, get_or-take, drop-drop}
+use Rattle.std.proofs.lemmas.List.{get_or-append-add}
+use Rattle.octets.specs.Octets.{Bytes, part}
+use Rattle.text.specs.Reading.{is_hex, value_of}
+use Rattle.text.specs.Found.{unhexed, Digits}
+use Rattle.text.proofs.ReadPrinted.{hex_digit, no_bytes, one_byte}
 
-pub length_unhexed : (n : ℕ) (l : List ℕ) → length (unhexed n l) ≡ n
+pub length_unhexed : (l : List ℕ) → length (unhexed l) ≡ length l / 2
 unfolding unhexed
-length_unhexed zero l = refl
-length_unhexed (suc n) l = rw (length-append, length_unhexed n l) (omega arith)
+length_unhexed [] = refl
+length_unhexed (a ∷ []) = refl
+length_unhexed (a ∷ b ∷ l) = omega (arith, length_unhexed l)
 
-pub unhexed_at : (n : ℕ) (l : List ℕ) (i : ℕ) → i < n → get_or (unhexed n l) i 0 ≡ pair_from l (2 * i)
+pub two_digits : (pair : List ℕ) → length pair ≡ 2 → unhexed pair ≡ (value_of (get_or pair 0 0) * 16 + value_of (get_or pair 1 0)) ∷ []
 unfolding unhexed
-unhexed_at zero l i h = absurd (omega arith)
-unhexed_at (suc n) l i h = go (dec_lt i n) (unhexed_at n l i)
-  where
-    go : Dec (i < n) → (i < n → get_or (unhexed n l) i 0 ≡ pair_from l (2 * i)) → get_or (unhexed n l ++ (pair_from l (2 * n) ∷ [])) i 0 ≡ pair_from l (2 * i)
-    go (yes k) e = get_or-append (unhexed n l) (pair_from l (2 * n) ∷ []) 0 i (omega (arith, length_unhexed n l)) ∙ e k
-    go (no k) e =
-        let last : i ≡ n = omega arith in
-        rw last (get_or_at (unhexed n l) (pair_from l (2 * n)) [] 0 n (length_unhexed n l))
+two_digits [] e = absurd (omega arith)
+two_digits (a ∷ []) e = absurd (omega arith)
+two_digits (a ∷ b ∷ []) e = refl
+two_digits (a ∷ b ∷ c ∷ l) e = absurd (omega arith)
 
--- a pair of the text, by its place in the text
-pub pair_there : (text : List ℕ) (at i : ℕ) → pair_from (drop at text) (2 * i) ≡ pair_from text (at + 2 * i)
-pair_there text at i =
-    let behind : at + (2 * i + 1) ≡ at + 2 * i + 1 = omega arith in
-    rw (get_or-drop at text (2 * i) 0, get_or-drop at text (2 * i + 1) 0, behind)
+unhexed_append : (u l : List ℕ) → length u % 2 ≡ 0 → unhexed (u ++ l) ≡ unhexed u ++ unhexed l
+unfolding unhexed
+unhexed_append [] l e = refl
+unhexed_append (a ∷ []) l e = absurd (omega arith)
+unhexed_append (a ∷ b ∷ u) l e = ap (λ (v : List ℕ). (value_of a * 16 + value_of b) ∷ v) (unhexed_append u l (omega arith))
 
--- byte i of n that the text writes from `at` on
-pub byte_there : (text : List ℕ) (at n i : ℕ) → i < n → get_or (unhexed n (drop at text)) i 0 ≡ pair_from text (at + 2 * i)
-byte_there text at n i h = unhexed_at n (drop at text) i h ∙ pair_there text at i
+unhexed_drop : (n : ℕ) (l : List ℕ) → unhexed (drop (2 * n) l) ≡ drop n (unhexed l)
+unfolding unhexed
+unhexed_drop zero l = refl
+unhexed_drop (suc n) [] = let two : 2 * suc n ≡ suc (suc (2 * n)) = omega arith in rw two
+unhexed_drop (suc n) (a ∷ []) = let two : 2 * suc n ≡ suc (suc (2 * n)) = omega arith in rw two
+unhexed_drop (suc n) (a ∷ b ∷ l) = let two : 2 * suc n ≡ suc (suc (2 * n)) = omega arith in rw two (unhexed_drop n l)
 
--- m bytes behind n are read from 2 * n digits on
-pub word_there : (text : List ℕ) (at n k m : ℕ) → k + m ≤ n → big_endian m (unhexed m (drop (at + 2 * k) text)) ≡ big_endian m (drop k (unhexed n (drop at text)))
-word_there text at n k m h =
-    number_same m (unhexed m (drop (at + 2 * k) text)) (drop k (unhexed n (drop at text)))
-    (λ i j.
-    let there : at + 2 * k + 2 * i ≡ at + 2 * (k + i) = omega arith in
-    byte_there text (at + 2 * k) m i j ∙ ap (pair_from text) there ∙ sym (get_or-drop k (unhexed n (drop at text)) i 0 ∙ byte_there text at n (k + i) (omega arith)))
+unhexed_take : (n : ℕ) (l : List ℕ) → unhexed (take (2 * n) l) ≡ take n (unhexed l)
+unfolding unhexed
+unhexed_take zero l = refl
+unhexed_take (suc n) [] = let two : 2 * suc n ≡ suc (suc (2 * n)) = omega arith in rw two
+unhexed_take (suc n) (a ∷ []) = let two : 2 * suc n ≡ suc (suc (2 * n)) = omega arith in rw two
+unhexed_take (suc n) (a ∷ b ∷ l) =
+    let two : 2 * suc n ≡ suc (suc (2 * n)) = omega arith in
+    rw two (ap (λ (v : List ℕ). (value_of a * 16 + value_of b) ∷ v) (unhexed_take n l))
 
--- they are bytes, if all are
-pub word_bytes : (text : List ℕ) (at n k m : ℕ) → k + m ≤ n → Bytes (unhexed n (drop at text)) → Bytes (unhexed m (drop (at + 2 * k) text))
-word_bytes text at n k m h b i = go (dec_lt i m)
-  where
-    go : Dec (i < m) → get_or (unhexed m (drop (at + 2 * k) text)) i 0 < 256
-    go (yes j) =
-        let there : at + 2 * k + 2 * i ≡ at + 2 * (k + i) = omega arith in
-        rw (byte_there text (at + 2 * k) m i j ∙ ap (pair_from text) there ∙ sym (byte_there text at n (k + i) (omega arith))) (b (k + i))
-    go (no j) = rw (get_or-eq_default (unhexed m (drop (at + 2 * k) text)) 0 {n = i} (omega (arith, length_unhexed m (drop (at + 2 * k) text)))) (lit< tt)
+pub unhexed_part : (at n : ℕ) (l : List ℕ) → unhexed (part (2 * at) (2 * n) l) ≡ part at n (unhexed l)
+unhexed_part at n l = unhexed_take n (drop (2 * at) l) ∙ ap (take n) (unhexed_drop at l)
+
+pub unhexed_bytes : (l : List ℕ) → Digits l → Bytes (unhexed l)
+unfolding unhexed
+unhexed_bytes [] d = no_bytes
+unhexed_bytes (a ∷ []) d = no_bytes
+unhexed_bytes (a ∷ b ∷ l) d =
+    let p = (hex_digit a (d 0 0 (omega arith))).1 in
+    let q = (hex_digit b (d 1 0 (omega arith))).1 in
+    one_byte (value_of a * 16 + value_of b) (unhexed l) (omega arith) (unhexed_bytes l (λ k x h. d (suc (suc k)) x (omega arith)))
+
+pub digits_part : (at n : ℕ) (l : List ℕ) → Digits l → Digits (part at n l)
+digits_part at n l d k x h =
+    ap is_hex (get_or-take n (drop at l) k x (omega (arith, length-take n (drop at l))) ∙ get_or-drop at l k x)
+    ∙ d (at + k) x (omega (arith, length-take n (drop at l), length-drop at l))
+
+-- digits that are left, the pair that comes next, and what is left then
+pub record Pair (rest pair after : List ℕ) : Type 0 where
+  pub cut : rest ≡ pair ++ after
+  pub digits : Digits rest
+  pub two : length pair ≡ 2
+
+module _ {rest pair after : List ℕ} (p : Pair rest pair after) where
+  pub pair_digits : Digits pair
+  pair_digits k x h =
+      ap is_hex (sym (ap (λ (l : List ℕ). get_or l k x) p.cut ∙ get_or-append pair after x k h))
+      ∙ p.digits k x (omega (arith, ap length p.cut, length-append pair after))
+
+  pub digits_after : Digits after
+  digits_after k x h =
+      ap is_hex (sym (ap (λ (l : List ℕ). get_or l (length pair + k) x) p.cut ∙ get_or-append-add pair after k x))
+      ∙ p.digits (length pair + k) x (omega (arith, ap length p.cut, length-append pair after))
+
+  pub pair_ahead : {x : ℕ} → unhexed pair ≡ x ∷ [] → unhexed rest ≡ x ∷ unhexed after
+  pair_ahead e =
+      let two = p.two in
+      ap unhexed p.cut ∙ unhexed_append pair after (omega arith) ∙ ap (λ (u : List ℕ). u ++ unhexed after) e
+
+  pub length_after : length rest ≡ length after + 2
+  length_after = omega (arith, ap length p.cut, length-append pair after, p.two)
+
+-- a lone digit writes nothing
+pub nothing_left : (l : List ℕ) → length l < 2 → unhexed l ≡ []
+unfolding unhexed
+nothing_left [] h = refl
+nothing_left (a ∷ []) h = refl
+nothing_left (a ∷ b ∷ l) h = absurd (omega arith)
+
+-- of a list of which n are passed, the next, and what is left then
+pub record Next (l : List ℕ) (n x : ℕ) (after : List ℕ) : Type 0 where
+  pub left : x ∷ after ≡ drop n l
+
+module _ {l : List ℕ} {n x : ℕ} {after : List ℕ} (next : Next l n x after) where
+  pub next_is : get_or l n 0 ≡ x
+  next_is = ap (λ (k : ℕ). get_or l k 0) (omega arith) ∙ sym (get_or-drop n l 0 0) ∙ ap (λ (m : List ℕ). get_or m 0 0) (sym next.left)
+
+  pub after_is : after ≡ drop (suc n) l
+  after_is = ap (λ (m : List ℕ). drop 1 m) next.left ∙ drop-drop 1 n l ∙ ap (λ (k : ℕ). drop k l) {y = suc n} (omega arith)

@@ -1,30 +1,24 @@
--- What reading by places finds, as the functions' contracts say it: a place stands for the text from there on, and bytes in hex for the place of their
--- digits. A line that is not in its form is Bad; else the answer has the value, and the place behind the line.
-use Rattle.std.specs.Prelude.{◌≡◌, List, [], ◌∷◌, ◌++◌, ℕ, zero, suc, ◌+◌, ◌*◌, ◌≤◌, length, get_or, drop, Option, Some, None}
-use Rattle.text.specs.Reading.{Read, failed, got, value_of}
-use Rattle.text.specs.declared.reading.Hex.{Hex}
+-- What the readers of lines answer, as their contracts say it: a value and the text that is left behind it, or nothing; and what digits in hex write.
+use Rattle.std.specs.Prelude.{cond, List, [], ◌∷◌, ℕ, ◌+◌, ◌*◌, ◌-◌, Option, Some, None}
+use Rattle.std.specs.Borrow.{Bor}
+use Rattle.std.specs.List.{AllPass}
+use Rattle.text.specs.Reading.{Read, failed, got, may_follow, is_hex, value_of}
 
--- the byte that two digits at a place write
-abbrev pub pair_from : List ℕ → ℕ → ℕ
-pair_from text at = value_of (get_or text at 0) * 16 + value_of (get_or text (at + 1) 0)
+-- a value and what is left, or nothing
+abbrev pub found : {A : Type 0} → Option (A × Bor (List ℕ)) → Read A
+found (Some (value, rest)) = got value rest.now
+found None = failed
 
--- the bytes that the first n pairs of digits write
-unfoldable pub unhexed : ℕ → List ℕ → List ℕ
-unhexed zero text = []
-unhexed (suc n) text = unhexed n text ++ (pair_from text (2 * n) ∷ [])
+-- x with a digit behind it, where that may follow
+abbrev pub next_of : ℕ → ℕ → Option ℕ
+next_of x c = cond (may_follow x c) (Some (x * 10 + (c - 48))) None
 
--- the bytes that digits in a text write
-abbrev pub bytes_in : List ℕ → Hex → List ℕ
-bytes_in text hex = unhexed hex.count (drop hex.at text)
+-- digits in hex
+abbrev pub Digits : List ℕ → Type 0
+Digits text = AllPass is_hex text
 
--- the digits stand in the text
-abbrev pub Within : List ℕ → Hex → Type 0
-Within text hex = hex.at + 2 * hex.count ≤ length text
-
-abbrev pub FindsNumber : List ℕ → Read ℕ → Option (ℕ × ℕ) → Type 0
-FindsNumber text read (Some (x, next)) = (read ≡ got x (drop next text)) × (next ≤ length text)
-FindsNumber text read None = read ≡ failed
-
-abbrev pub FindsSpan : List ℕ → Read (List ℕ) → Option (Hex × ℕ) → Type 0
-FindsSpan text read (Some (hex, next)) = (read ≡ got (bytes_in text hex) (drop next text)) × (next ≤ length text) × (hex.at + 2 * hex.count + 1 ≡ next)
-FindsSpan text read None = read ≡ failed
+-- the bytes that digits in hex write, two a byte
+unfoldable pub unhexed : List ℕ → List ℕ
+unhexed [] = []
+unhexed (a ∷ []) = []
+unhexed (a ∷ b ∷ text) = (value_of a * 16 + value_of b) ∷ unhexed text

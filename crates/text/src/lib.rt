@@ -40,13 +40,13 @@ pub fn write_hex_line(name: &[u8], bytes: &[u8], out: &mut [u8], at: usize) -> u
     ensures out_after { out.new ≡ put out.old at (hex_line name.now bytes.now) }
 {
     octets::copy(name, out, at);
-    write_hex(bytes, out, at + name.len());
-    let end = at + name.len() + 2 * bytes.len();
+    let end = write_hex(bytes, out, at + name.len());
     out[end] = LINE_FEED;
     end + 1
 }
 
-// A number in decimal is written at `at`. Answers where it ends.
+// A number in decimal is written at `at`. Answers where it ends. The digits come from the last to the first; how many there are is known only when
+// nothing is left.
 fn write_decimal(number: u64, out: &mut [u8], at: usize) -> usize
     requires { at + 20 ≤ length out.old }
     ensures value { (result ≡ at + length (decimal_of number)) × (result ≤ at + 20) }
@@ -66,17 +66,17 @@ fn write_decimal(number: u64, out: &mut [u8], at: usize) -> usize
     at + (DIGITS - start)
 }
 
-// Bytes in hex, two digits each, are written at `at`.
-fn write_hex(bytes: &[u8], out: &mut [u8], at: usize)
+// Bytes in hex, two digits each, are written at `at`. Answers where they end.
+fn write_hex(bytes: &[u8], out: &mut [u8], at: usize) -> usize
     requires { at + 2 * length bytes.now ≤ length out.old }
-    ensures { out.new ≡ put out.old at (hex_of bytes.now) }
+    ensures value { result ≡ at + 2 * length bytes.now }
+    ensures out_after { out.new ≡ put out.old at (hex_of bytes.now) }
 {
-    let mut i: usize = 0;
-    while i < bytes.len() {
-        out[at + 2 * i] = digit(bytes[i] / 16);
-        out[at + 2 * i + 1] = digit(bytes[i] % 16);
-        i += 1;
+    for (i, byte) in bytes.iter().enumerate() {
+        out[at + 2 * i] = digit(*byte / 16);
+        out[at + 2 * i + 1] = digit(*byte % 16);
     }
+    at + 2 * bytes.len()
 }
 
 // A digit in hex.

@@ -1,215 +1,156 @@
-// Lines of a text, read from a place: a name, behind it a number in decimal or bytes in hex, and a line feed. Bytes in hex are answered by the place of
-// their digits, so that no text needs a buffer.
-ghost use Rattle.std.specs.Prelude.{◌≡◌, ◌+◌, ◌*◌, ◌-◌, ◌<◌, ◌≤◌, ◌^◌, length, take, drop};
-ghost use Rattle.octets.specs.Octets.{Bytes, big_endian, same};
-ghost use Rattle.text.specs.Reading.{is_digit, may_follow, is_hex, value_of, read_digits, read_hex, read_decimal_line, read_hex_line, read_bytes_line, read_number_line};
-ghost use Rattle.text.specs.Found.{pair_from, unhexed, FindsNumber, FindsSpan};
+// Lines of a text, read from its front: a name, behind it a number in decimal or bytes in hex, and a line feed. Each reader answers a value and the text
+// that is left behind its line. Bytes in hex stay where they stand, so that no text needs a buffer.
+ghost use Rattle.std.specs.Prelude.{◌≡◌, ◌+◌, ◌*◌, ◌<◌, ◌≤◌, ◌^◌, [], ◌∷◌, true, length};
+ghost use Rattle.octets.specs.Octets.{big_endian, part, same};
+ghost use Rattle.text.specs.Reading.{is_hex, value_of, read_digits, read_hex, read_decimal_line, read_hex_line, read_bytes_line, read_number_line};
+ghost use Rattle.text.specs.Found.{found, next_of, unhexed, Digits};
 
 use crate::LINE_FEED;
+use std::marker::Model;
 
-// 2^64 - 1, and how often ten goes into it.
-const GREATEST: u64 = 18446744073709551615;
+// Bytes in hex, as the digits that write them. Contracts see the bytes.
+#[derive(Drop)]
+pub struct Hex<'a> {
+    digits: &'a [u8],
+}
 
-const TENTH: u64 = 1844674407370955161;
+impl<'a> Model for Hex<'a> {
+    ghost use Rattle.std.specs.Prelude.{List, ℕ};
+    ghost use Rattle.text.specs.Found.{unhexed, Digits};
 
-// Bytes in hex: where their digits begin, and how many bytes they write.
-#[derive(Clone, Copy)]
-pub struct Hex {
-    pub at: usize,
-    pub count: usize,
+    ghost Value = { List ℕ };
+
+    ghost view = { λ h. unhexed h.digits.now };
+
+    ghost invariant = { λ h. Digits h.digits.now };
+}
+
+impl<'a> Hex<'a> {
+    // How many bytes.
+    pub fn len(&self) -> usize
+        ensures { result ≡ length self.now }
+    {
+        self.digits.len() / 2
+    }
+
+    // Whether they are these.
+    pub fn is(&self, bytes: &[u8]) -> bool
+        ensures { result ≡ same bytes.now self.now }
+    {
+        if self.len() != bytes.len() {
+            return false;
+        }
+        for (pair, x) in self.digits.chunks_exact(2).zip(bytes) {
+            if byte(pair) != *x {
+                return false;
+            }
+        }
+        true
+    }
+
+    // The n of them at a place.
+    pub fn part(&self, at: usize, n: usize) -> Hex<'a>
+        requires { at + n ≤ length self.now }
+        ensures { result ≡ part at n self.now }
+    {
+        let digits = self.digits;
+        Hex {
+            digits: &digits[2 * at..2 * at + 2 * n],
+        }
+    }
+
+    // The number that they write.
+    pub fn number(&self) -> u64
+        requires { length self.now ≤ 8 }
+        ensures { (result ≡ big_endian (length self.now) self.now) × (result < 2 ^ (8 * length self.now)) }
+    {
+        let mut number = 0;
+        for pair in self.digits.chunks_exact(2) {
+            number = number * 256 + u64::from(byte(pair));
+        }
+        number
+    }
 }
 
 // A name, a number in decimal and a line feed.
-pub fn decimal_line(name: &[u8], text: &[u8], at: usize) -> Option<(u64, usize)>
-    requires { (at ≤ length text.now) × (length name.now ≤ 16) }
-    ensures { FindsNumber text.now (read_decimal_line name.now (drop at text.now)) result }
+pub fn decimal_line<'a>(name: &[u8], text: &'a [u8]) -> Option<(u64, &'a [u8])>
+    ensures { found result ≡ read_decimal_line name.now text.now }
 {
-    if !named(name, text, at) {
+    let behind = text.strip_prefix(name)?;
+    let (first, rest) = behind.split_first()?;
+    if !first.is_ascii_digit() {
         return None;
     }
-    let first = at + name.len();
-    if text.len() <= first {
-        return None;
-    }
-    let c = text[first];
-    if !is_digit(c) {
-        return None;
-    }
-    digits(text, first + 1, (c - b'0') as u64)
+    digits(rest, u64::from(*first - b'0'))
 }
 
 // A name, bytes in hex and a line feed.
-pub fn hex_line(name: &[u8], text: &[u8], at: usize) -> Option<(Hex, usize)>
-    requires { (at ≤ length text.now) × (length name.now ≤ 16) }
-    ensures { FindsSpan text.now (read_hex_line name.now (drop at text.now)) result }
+pub fn hex_line<'a>(name: &[u8], text: &'a [u8]) -> Option<(Hex<'a>, &'a [u8])>
+    ensures { found result ≡ read_hex_line name.now text.now }
 {
-    if !named(name, text, at) {
-        return None;
-    }
-    pairs(text, at + name.len())
+    let behind = text.strip_prefix(name)?;
+    pairs(behind)
 }
 
 // A name, n bytes in hex and a line feed.
-pub fn bytes_line(name: &[u8], n: usize, text: &[u8], at: usize) -> Option<(Hex, usize)>
-    requires { (at ≤ length text.now) × (length name.now ≤ 16) }
-    ensures { FindsSpan text.now (read_bytes_line name.now n (drop at text.now)) result }
+pub fn bytes_line<'a>(name: &[u8], n: usize, text: &'a [u8]) -> Option<(Hex<'a>, &'a [u8])>
+    ensures { found result ≡ read_bytes_line name.now n text.now }
 {
-    let (hex, next) = hex_line(name, text, at)?;
-    if hex.count != n {
+    let (bytes, rest) = hex_line(name, text)?;
+    if bytes.len() != n {
         return None;
     }
-    Some((hex, next))
+    Some((bytes, rest))
 }
 
 // A name, a number of n bytes in hex and a line feed.
-pub fn number_line(name: &[u8], n: usize, text: &[u8], at: usize) -> Option<(u64, usize)>
-    requires { (at ≤ length text.now) × (length name.now ≤ 16) × (n ≤ 8) }
-    ensures { FindsNumber text.now (read_number_line name.now n (drop at text.now)) result }
+pub fn number_line<'a>(name: &[u8], n: usize, text: &'a [u8]) -> Option<(u64, &'a [u8])>
+    requires { n ≤ 8 }
+    ensures { found result ≡ read_number_line name.now n text.now }
 {
-    let (hex, next) = bytes_line(name, n, text, at)?;
-    Some((hex_number(text, hex.at, n), next))
-}
-
-// The number that n bytes in hex at `at` write.
-pub fn hex_number(text: &[u8], at: usize, n: usize) -> u64
-    requires { (at + 2 * n ≤ length text.now) × (n ≤ 8) × Bytes (unhexed n (drop at text.now)) }
-    ensures { (result ≡ big_endian n (unhexed n (drop at text.now))) × (result < 2 ^ (8 * n)) }
-{
-    let mut number: u64 = 0;
-    let mut i: usize = 0;
-    while i < n {
-        number = number * 256 + pair(text, at + 2 * i);
-        i += 1;
-    }
-    number
-}
-
-// Whether these bytes are the ones that `count` pairs of digits at `at` write.
-pub fn same_hex(text: &[u8], at: usize, count: usize, bytes: &[u8]) -> bool
-    requires { at + 2 * count ≤ length text.now }
-    ensures { result ≡ same bytes.now (unhexed count (drop at text.now)) }
-{
-    if count != bytes.len() {
-        return false;
-    }
-    let mut i: usize = 0;
-    while i < bytes.len() {
-        if pair(text, at + 2 * i) != octets::wide(bytes[i]) {
-            return false;
-        }
-        i += 1;
-    }
-    true
-}
-
-// The byte that two digits in hex at `at` write.
-fn pair(text: &[u8], at: usize) -> u64
-    requires { at + 2 ≤ length text.now }
-    ensures { result ≡ pair_from text.now at }
-{
-    value(text[at]) * 16 + value(text[at + 1])
-}
-
-// What a digit in hex stands for.
-fn value(c: u8) -> u64
-    ensures { (result ≡ value_of c) × (result < 256) }
-{
-    if c <= b'9' {
-        if c < b'0' {
-            return 0;
-        }
-        return (c - b'0') as u64;
-    }
-    if c < 87 {
-        return 0;
-    }
-    (c - 87) as u64
-}
-
-// Whether the text goes on with a name.
-fn named(name: &[u8], text: &[u8], at: usize) -> bool
-    requires { (at ≤ length text.now) × (length name.now ≤ 16) }
-    ensures { result ≡ same (take (length name.now) (drop at text.now)) name.now }
-{
-    if text.len() - at < name.len() {
-        return false;
-    }
-    let end = at + name.len();
-    octets::equal(&text[at..end], name)
+    let (bytes, rest) = bytes_line(name, n, text)?;
+    Some((bytes.number(), rest))
 }
 
 // The digits behind those that write a number, up to the line feed.
-fn digits(text: &[u8], at: usize, first: u64) -> Option<(u64, usize)>
-    requires { at ≤ length text.now }
-    ensures { FindsNumber text.now (read_digits first (drop at text.now)) result }
+fn digits(text: &[u8], first: u64) -> Option<(u64, &[u8])>
+    ensures { found result ≡ read_digits first text.now }
 {
     let mut number = first;
-    let mut i = at;
-    while i < text.len() {
-        let c = text[i];
-        i += 1;
-        if c == LINE_FEED {
-            return Some((number, i));
+    for (i, c) in text.iter().enumerate() {
+        if *c == LINE_FEED {
+            return Some((number, &text[i + 1..]));
         }
-        if !may_follow(number, c) {
-            return None;
-        }
-        number = number * 10 + ((c - b'0') as u64);
+        number = with_digit(number, *c)?;
     }
     None
 }
 
-// Whether a digit may follow those that write a number.
-fn may_follow(number: u64, c: u8) -> bool
-    ensures { result ≡ may_follow number c }
+// The number with a digit behind it, where one may follow: none follows a 0, and none makes the number too large.
+fn with_digit(number: u64, c: u8) -> Option<u64>
+    ensures { result ≡ next_of number c }
 {
-    if !is_digit(c) {
-        return false;
+    if !c.is_ascii_digit() {
+        return None;
     }
     if number == 0 {
-        return false;
+        return None;
     }
-    if TENTH < number {
-        return false;
-    }
-    if GREATEST - number * 10 < ((c - b'0') as u64) {
-        return false;
-    }
-    true
-}
-
-// Whether a byte is a decimal digit.
-fn is_digit(c: u8) -> bool
-    ensures { result ≡ is_digit c }
-{
-    if c < b'0' {
-        return false;
-    }
-    c <= b'9'
+    number.checked_mul(10)?.checked_add(u64::from(c - b'0'))
 }
 
 // Digits in hex, two a byte, up to the line feed.
-fn pairs(text: &[u8], at: usize) -> Option<(Hex, usize)>
-    requires { at ≤ length text.now }
-    ensures { FindsSpan text.now (read_hex (drop at text.now)) result }
+fn pairs(text: &[u8]) -> Option<(Hex<'_>, &[u8])>
+    ensures { found result ≡ read_hex text.now }
 {
-    let mut count: usize = 0;
-    let mut i = at;
-    while i < text.len() {
-        if text[i] == LINE_FEED {
-            return Some((Hex { at, count }, i + 1));
+    for (i, c) in text.iter().enumerate() {
+        if !is_hex(*c) {
+            if *c != LINE_FEED || i % 2 != 0 {
+                return None;
+            }
+            let digits = &text[..i];
+            return Some((Hex { digits }, &text[i + 1..]));
         }
-        if text.len() - i < 2 {
-            return None;
-        }
-        if !is_hex(text[i]) {
-            return None;
-        }
-        if !is_hex(text[i + 1]) {
-            return None;
-        }
-        count += 1;
-        i += 2;
     }
     None
 }
@@ -218,11 +159,24 @@ fn pairs(text: &[u8], at: usize) -> Option<(Hex, usize)>
 fn is_hex(c: u8) -> bool
     ensures { result ≡ is_hex c }
 {
-    if is_digit(c) {
-        return true;
+    matches!(c, b'0'..=b'9' | b'a'..=b'f')
+}
+
+// The byte that two digits in hex write.
+fn byte(pair: &[u8]) -> u8
+    requires { (length pair.now ≡ 2) × Digits pair.now }
+    ensures { unhexed pair.now ≡ result ∷ [] }
+{
+    value(pair[0]) * 16 + value(pair[1])
+}
+
+// What a digit in hex stands for.
+fn value(c: u8) -> u8
+    requires { is_hex c ≡ true }
+    ensures { (result ≡ value_of c) × (result < 16) }
+{
+    match c {
+        b'0'..=b'9' => c - b'0',
+        _ => c - b'a' + 10,
     }
-    if c < b'a' {
-        return false;
-    }
-    c <= b'f'
 }

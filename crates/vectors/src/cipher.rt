@@ -1,39 +1,51 @@
 // Magma and its parts.
 use magma::Halves;
+use script::Operands;
 
-// 0: the step t of a word. 1: the step g of a key word and a word. 2: a round with a key word on a block, and of the block after it the low half.
-pub(crate) fn of_word(command: usize, operands: &[u8]) -> u64 {
-    let rows = magma::table();
-    let word = script::word(operands, 0);
-    let block = halves(script::number(operands, 1));
-    match command {
-        0 => magma::substitute(&rows, word) as u64,
-        1 => magma::turn(&rows, word, block.low) as u64,
-        _ => low(block.round(&rows, word)),
-    }
+/// The step t of a word.
+pub(crate) fn substitute(operands: &Operands) -> u64 {
+    u64::from(magma::substitute(&magma::table(), operands.word(0)))
 }
 
-// With a key, 3: its word of a number, from 0. 4: eight rounds with its words in order on a block, 5: in reverse, and of the block after them the low
-// half. 6: the block that it makes of a block.
-pub(crate) fn of_key(command: usize, operands: &[u8]) -> u64 {
-    let rows = magma::table();
+/// The step g of a key word and a word.
+pub(crate) fn turn(operands: &Operands) -> u64 {
+    let word = operands.word(1);
+    u64::from(magma::turn(&magma::table(), operands.word(0), word))
+}
+
+/// A round with a key word on a block, and of the block after it the low half.
+pub(crate) fn round(operands: &Operands) -> u64 {
+    low(block(operands).round(&magma::table(), operands.word(0)))
+}
+
+/// The word of a key with a number, from 0.
+pub(crate) fn key_word(operands: &Operands) -> u64 {
     let key = message_calls::key(operands);
-    let number = script::number(operands, 1);
-    match command {
-        3 => key[(number % 8) as usize] as u64,
-        4 => low(magma::forward(&rows, &key, halves(number))),
-        5 => low(magma::backward(&rows, &key, halves(number))),
-        _ => magma::encrypt(&key, number),
-    }
+    u64::from(key[usize::from(operands.byte(1) % 8)])
 }
 
-fn halves(block: u64) -> Halves {
-    Halves {
-        high: (block / 4294967296) as u32,
-        low: (block % 4294967296) as u32,
-    }
+/// Eight rounds with a key's words in order on a block, and of the block after them the low half.
+pub(crate) fn forward(operands: &Operands) -> u64 {
+    let key = message_calls::key(operands);
+    low(magma::forward(&magma::table(), &key, block(operands)))
+}
+
+/// The same with the words in reverse.
+pub(crate) fn backward(operands: &Operands) -> u64 {
+    let key = message_calls::key(operands);
+    low(magma::backward(&magma::table(), &key, block(operands)))
+}
+
+/// The block that a key makes of a block.
+pub(crate) fn encrypt(operands: &Operands) -> u64 {
+    magma::encrypt(&message_calls::key(operands), operands.number(1))
+}
+
+// The block that is the second operand.
+fn block(operands: &Operands) -> Halves {
+    operands.number(1).into()
 }
 
 fn low(block: Halves) -> u64 {
-    block.low as u64
+    u64::from(block.low)
 }

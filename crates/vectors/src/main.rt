@@ -2,57 +2,57 @@
 // the script, and `stdout` holds what it prints.
 #![tactic(auto)]
 
+use crate::commands::{COMMANDS, Call};
+use message_calls::Opened;
+use script::{Line, Operands};
 use std::io;
-use std::io::{Read, Write};
+use std::io::Write;
 
 mod cipher; // cipher.rt: Magma and its parts
+mod commands; // commands.rt: the commands and their operands
 mod modes_of; // modes_of.rt: counter mode and check value
 
 fn main(rt: HostRuntime) -> io::Result<()> {
-    let mut text = Vec::new(rt.alloc());
-    rt.reader().take(script::LONGEST).read_to_end(&mut text)?;
-    let mut memory = [0u8; script::MEMORY];
-    run(
+    let text = input::read(rt.alloc(), rt.reader(), script::LONGEST)?;
+    let mut opened = Opened::default();
+    script::run(
         &mut io::writer(&rt),
-        b"substitute/4 turn/44 round/48 key_word/k1 forward/k8 backward/k8 encrypt/k8 first_subkey/k second_subkey/k check_value/k. check_value_32/k. derived_block/k.1161 derived_next/k.1161 counter/k4.1 open/k.1. seal/k.1161..2 opened_length/ opened_same/",
+        &COMMANDS,
         &text,
-        &mut memory,
+        |to, call, line, operands| run(to, call, line, operands, &mut opened),
     )
 }
 
-// Every line of the script is run, with a command of the list. What a sealed message gives when it is opened again is kept for the lines behind it.
-fn run(to: &mut impl Write, list: &[u8], text: &[u8], memory: &mut [u8]) -> io::Result<()> {
-    let mut opened: u64 = 0;
-    for line in text.split(|byte| *byte == b'\n') {
-        let command = script::command(to, list, line, memory)?;
-        opened = call(to, command, line, memory, opened)?;
-    }
-    Ok(())
-}
-
-// The command of that number is run with its operands.
-fn call(
+// A call is run and its value shown. What a sealed message opens to is kept for the calls behind it.
+fn run(
     to: &mut impl Write,
-    command: usize,
-    line: &[u8],
-    operands: &[u8],
-    opened: u64,
-) -> io::Result<u64> {
-    match command {
-        0 | 1 | 2 => script::show_number(to, line, cipher::of_word(command, operands))?,
-        3 | 4 | 5 | 6 => script::show_number(to, line, cipher::of_key(command, operands))?,
-        7 | 8 | 9 | 10 => script::show_number(to, line, modes_of::value(command, operands))?,
-        11 | 12 => {
-            script::show_number(to, line, message_calls::derived_block(command, operands))?
+    call: Call,
+    line: &Line,
+    operands: &Operands,
+    opened: &mut Opened,
+) -> io::Result<()> {
+    let number = match call {
+        Call::Substitute => cipher::substitute(operands),
+        Call::Turn => cipher::turn(operands),
+        Call::Round => cipher::round(operands),
+        Call::KeyWord => cipher::key_word(operands),
+        Call::Forward => cipher::forward(operands),
+        Call::Backward => cipher::backward(operands),
+        Call::Encrypt => cipher::encrypt(operands),
+        Call::FirstSubkey => modes_of::first_subkey(operands),
+        Call::SecondSubkey => modes_of::second_subkey(operands),
+        Call::CheckValue => modes_of::check_value(operands),
+        Call::CheckValue32 => modes_of::check_value(operands) >> 32,
+        Call::DerivedBlock => message_calls::derived_block(operands),
+        Call::DerivedNext => message_calls::derived_next(operands),
+        Call::OpenedLength => opened.length as u64,
+        Call::OpenedSame => u64::from(opened.is_payload),
+        Call::Counter => return modes_of::show_counter(to, line, operands),
+        Call::Open => return message_calls::show_opened(to, line, operands),
+        Call::Seal => {
+            *opened = message_calls::show_sealed(to, line, operands)?;
+            return Ok(());
         }
-        13 => modes_of::counter(to, line, operands)?,
-        14 => message_calls::show_opened(to, line, operands)?,
-        15 => {
-            return message_calls::show_sealed(to, line, operands);
-        }
-        16 => script::show_number(to, line, opened / 2)?,
-        17 => script::show_number(to, line, opened % 2)?,
-        _ => {}
-    }
-    Ok(opened)
+    };
+    script::show_number(to, line, number)
 }

@@ -1,34 +1,37 @@
 // Counter mode and check value with Magma, with a key.
 use modes::CheckKey;
+use script::{Line, Operands};
 use std::io;
 use std::io::Write;
 
-// 7 and 8: the two subkeys. 9: the check value of a text; 10: its leading 32 bits.
-pub(crate) fn value(command: usize, operands: &[u8]) -> u64 {
-    let key = message_calls::key(operands);
-    let keyed = CheckKey::of(&key);
-    let check = keyed.check_value(script::operand(operands, 1));
-    match command {
-        7 => keyed.first_subkey(),
-        8 => keyed.second_subkey(),
-        9 => check,
-        _ => check / 4294967296,
-    }
+/// The first subkey.
+pub(crate) fn first_subkey(operands: &Operands) -> u64 {
+    CheckKey::of(&message_calls::key(operands)).first_subkey()
 }
 
-// The counter's high half, a text, and how many bytes are shown of the output, which held 0xaa.
-pub(crate) fn counter(to: &mut impl Write, line: &[u8], operands: &[u8]) -> io::Result<()> {
+/// The second subkey.
+pub(crate) fn second_subkey(operands: &Operands) -> u64 {
+    CheckKey::of(&message_calls::key(operands)).second_subkey()
+}
+
+/// The check value of a text.
+pub(crate) fn check_value(operands: &Operands) -> u64 {
+    CheckKey::of(&message_calls::key(operands)).check_value(operands.bytes(1))
+}
+
+/// The counter's high half, a text, and how many bytes are shown of the output, which held 0xaa.
+pub(crate) fn show_counter(
+    to: &mut impl Write,
+    line: &Line,
+    operands: &Operands,
+) -> io::Result<()> {
     let key = message_calls::key(operands);
-    let text = script::operand(operands, 2);
-    let mut out = [0xaau8; 256];
-    if text.len() <= 256 {
-        modes::counter(&key, script::word(operands, 1), text, &mut out, 0);
-        script::show(
-            to,
-            line,
-            script::part(&out, 0, script::byte(operands, 3) as usize),
-        )
-    } else {
-        script::not_understood(to, line)
+    let text = operands.bytes(2);
+    let shown = usize::from(operands.byte(3));
+    let mut out = [0xaa; 256];
+    if out.len() < text.len() {
+        return script::not_understood(to, line);
     }
+    modes::counter(&key, operands.word(1), text, &mut out, 0);
+    script::show(to, line, &out[..shown])
 }

@@ -1,15 +1,20 @@
 -- An entry's window with its two totals (01, "Key lookup, window and totals"; 02, No. 2) and its two counters (02, No. 8).
 use Rattle.std.specs.Prelude.{Bool, ◌&&◌, ℕ, ◌+◌, ◌-◌, ◌*◌, leb}
-use Rattle.window.specs.Window.{View, floor_of, accept_of, count_of, undamaged_window, fresh_of}
+use Rattle.window.specs.Window.{View, view_of, floor_of, accept_of, count_of, undamaged_window, fresh_of}
 use Rattle.window.specs.Counters.{none_refused, undamaged_counters}
 use Rattle.window.specs.declared.Counters.{Counters}
 use Rattle.window.specs.declared.Frame.{Frame}
+use Rattle.window.specs.declared.Entry.{Entry as Held}
 
 pub record Entry : Type 0 where
   pub window : View
   pub accepted : ℕ
   pub bytes : ℕ
   pub counters : Counters
+
+-- What an entry of the code stands for.
+abbrev pub entry_view : Held → Entry
+entry_view e = record { window = view_of e.window; accepted = e.accepted; bytes = e.bytes; counters = e.counters }
 
 -- "A fresh entry has highest 0, no mark, totals 0", and nothing refused
 abbrev pub fresh_entry : Frame → Entry

@@ -1,16 +1,16 @@
 // The window of accepted numbers, by value. `specs/Window.antt` says what it is; the crate `words` has its marks.
 #![tactic(auto)]
 
-ghost use Rattle.std.specs.Prelude.{◌≡◌, true, ◌+◌, ◌-◌, ◌≤◌, min, max};
+ghost use Rattle.std.specs.Prelude.{◌≡◌, true, ◌+◌, ◌-◌, ◌^◌, ◌<◌, ◌≤◌, min, max};
 ghost use Rattle.window.specs.declared.Verdict.TheVariants.{Admissible};
 ghost use Rattle.window.specs.Window.{view_of, floor_of, verdict_of, accept_of, count_of, sound_frame, undamaged_window};
 ghost use Rattle.window.specs.Counters.{one_more};
-ghost use Rattle.window.specs.Entry.{undamaged_entry};
+ghost use Rattle.window.specs.Entry.{entry_view, taken, undamaged_entry};
 
 use words::Marks;
 
 // The greatest number that a message can have: 2^48 - 1.
-pub const LAST: u64 = 281474976710655;
+pub const LAST: u64 = (1 << 48) - 1;
 
 // The largest Size of a window.
 const LARGEST_SIZE: u64 = 256;
@@ -19,7 +19,7 @@ const LARGEST_SIZE: u64 = 256;
 const LONGEST_PAYLOAD: u64 = 2034;
 
 // Where a counter of refused arrivals stops: 2^32 - 1.
-const COUNTER_LIMIT: u64 = 4294967295;
+const COUNTER_LIMIT: u64 = u32::MAX as u64;
 
 // What an install settles of a window: its Size, and the start below which no number is taken.
 #[derive(Clone, Copy)]
@@ -43,12 +43,30 @@ pub struct Window {
     pub marks: [u64; 4],
 }
 
+// What an entry has counted: its window, its two totals, and its counters of refused arrivals.
+#[derive(Clone, Copy)]
+pub struct Entry {
+    pub window: Window,
+    pub accepted: u64,
+    pub bytes: u64,
+    pub counters: Counters,
+}
+
 // What the window says of a number.
 #[derive(Clone, Copy, Debug, PartialEq, Eq)]
 pub enum Verdict {
     Below,
     Marked,
     Admissible,
+}
+
+impl Frame {
+    // Whether a window may have that Size and that start.
+    pub fn is_sound(self) -> bool
+        ensures { result ≡ sound_frame self }
+    {
+        1 <= self.size && self.size <= LARGEST_SIZE && self.start <= LAST
+    }
 }
 
 impl Window {
@@ -113,10 +131,10 @@ impl Window {
     }
 
     // Whether the damage rule finds nothing in the window.
-    pub(crate) fn undamaged(self) -> bool
+    pub(crate) fn is_undamaged(self) -> bool
         ensures { result ≡ undamaged_window (view_of self) }
     {
-        if !sound_frame(self.frame) {
+        if !self.frame.is_sound() {
             return false;
         }
         if LAST < self.highest {
@@ -151,38 +169,50 @@ impl Window {
     }
 }
 
-// Whether a window may have that Size and that start.
-pub fn sound_frame(frame: Frame) -> bool
-    ensures { result ≡ sound_frame frame }
-{
-    1 <= frame.size && frame.size <= LARGEST_SIZE && frame.start <= LAST
-}
+impl Entry {
+    // Whether the damage rule finds nothing in it.
+    pub fn is_undamaged(&self) -> bool
+        ensures { result ≡ undamaged_entry (entry_view self.now) }
+    {
+        let window = self.window;
+        if !window.is_undamaged() {
+            return false;
+        }
+        let start = window.frame.start;
+        let count = window.count();
+        let accepted = self.accepted;
+        if accepted < count {
+            return false;
+        }
+        if count + window.floor() - start < accepted {
+            return false;
+        }
+        if LONGEST_PAYLOAD * accepted < self.bytes {
+            return false;
+        }
+        if COUNTER_LIMIT < self.counters.replays {
+            return false;
+        }
+        if COUNTER_LIMIT < self.counters.forged {
+            return false;
+        }
+        true
+    }
 
-// Whether the damage rule finds nothing in a window and the totals and counters beside it.
-pub fn undamaged_entry(window: Window, accepted: u64, bytes: u64, counters: Counters) -> bool
-    ensures { result ≡ undamaged_entry (record { window = view_of window; accepted = accepted; bytes = bytes; counters = counters }) }
-{
-    if !window.undamaged() {
-        return false;
+    // The entry once it takes a message: a number that its window finds admissible, and a payload of so many bytes.
+    pub fn taken(&self, number: u64, payload: usize) -> Entry
+        requires short { payload < 2 ^ 16 }
+        requires is_undamaged { undamaged_entry (entry_view self.now) ≡ true }
+        requires admissible { verdict_of (view_of self.now.window) number ≡ Admissible }
+        ensures { entry_view result ≡ taken (entry_view self.now) number payload }
+    {
+        Entry {
+            window: self.window.accept(number),
+            accepted: self.accepted + 1,
+            bytes: self.bytes + payload as u64,
+            counters: self.counters,
+        }
     }
-    let start = window.frame.start;
-    let count = window.count();
-    if accepted < count {
-        return false;
-    }
-    if count + window.floor() - start < accepted {
-        return false;
-    }
-    if LONGEST_PAYLOAD * accepted < bytes {
-        return false;
-    }
-    if COUNTER_LIMIT < counters.replays {
-        return false;
-    }
-    if COUNTER_LIMIT < counters.forged {
-        return false;
-    }
-    true
 }
 
 // A counter with one refusal more; at its limit it stays.

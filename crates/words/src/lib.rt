@@ -49,7 +49,8 @@ impl Marks {
         self.words
     }
 
-    // The number moved up by d bits: by whole words first, at most four times, and then by the rest.
+    // The number moved up by d bits: by whole words first, at most four times, and then by the rest. A `for` over the words took 32 bytes more of
+    // the stack of receive.
     pub fn shifted(self, d: u64) -> Marks
         requires { d ≤ 256 }
         ensures { result ≡ self * 2 ^ d % 2 ^ 256 }

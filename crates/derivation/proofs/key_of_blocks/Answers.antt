@@ -15,8 +15,8 @@ loop-k-preserved c =
     let number = a.first + l.k in record {
       eight = simp length-set l.invariant.eight;
       rest = rw (set_split l.bytes 0 number (search rules)) l.invariant.rest;
-      stored = one_block _ a.first l.words l.k l.invariant.stored c.check_value-block.result (omega arith)
-          (rw (c.check_value-block.ensures, set_split l.bytes 0 number (search rules), l.invariant.rest));
+      stored = one_block _ a.first l.words l.k l.invariant.stored c.from-block.result (omega arith)
+          (rw (c.from-block.ensures, c.check_value.ensures, set_split l.bytes 0 number (search rules), l.invariant.rest));
     }
 
 pub returns : goal.returns

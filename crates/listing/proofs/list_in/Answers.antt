@@ -3,6 +3,7 @@ use Rattle.std.proofs.Common.{◌≡◌, ◌<◌, sym, ap, ◌∙◌, refl, List
 use Rattle.octets.specs.Octets.{put}
 use Rattle.slots.specs.Record.{undamaged}
 use Rattle.slots.specs.Table.{slot_of, slot_count, occupied}
+use Rattle.slots.proofs.Damage.{source_short}
 use Rattle.listing.proofs.Listed.{little_room, past_last_slot, free_slot, listing_damaged, all_written}
 use Rattle.listing.specs.Listing.{listing_of}
 use Rattle.listing.proofs.list_in.Goals.{After-at-held}
@@ -42,15 +43,15 @@ returns-then-not-is_undamaged c =
 
 pub write_lines-requires : goal.write_lines-requires
 write_lines-requires c =
-    (ap length c.content.ensures ∙ c.at-held.ensures.whole, ap undamaged c.content.ensures ∙ sym c.is_undamaged.ensures ∙ c.if-not-is_undamaged.false, omega arith)
+    let whole = c.at-held.ensures.whole in
+    record { whole = whole; source_fits = source_short _ (sym c.is_undamaged.ensures ∙ c.if-not-is_undamaged.false) whole; room = omega arith }
 
 pub returns : goal.returns
 returns c =
     let a = c.args in
     let after = (goal.at.returns c).After-at-held in
-    let slot = c.content.ensures ∙ here after in
     all_written a.table.now a.slot a.out.now (omega arith) (small after)
     (sym (c.is_occupied.ensures ∙ ap (λ (s : List ℕ). occupied s) (here after)) ∙ c.if-not-is_occupied.false)
     (sym (c.is_undamaged.ensures ∙ ap undamaged (here after)) ∙ c.if-not-is_undamaged.false)
-    (c.write_lines.ensures.value ∙ ap (λ (s : List ℕ). length (listing_of a.slot s)) slot)
-    (c.write_lines.ensures.out_after ∙ ap (λ (s : List ℕ). put a.out.now 0 (listing_of a.slot s)) slot)
+    (c.write_lines.ensures.value ∙ ap (λ (s : List ℕ). length (listing_of a.slot s)) (here after))
+    (c.write_lines.ensures.out_after ∙ ap (λ (s : List ℕ). put a.out.now 0 (listing_of a.slot s)) (here after))

@@ -13,7 +13,7 @@ added : (c : After-from) → c.loop-row.done + c.from.result * 2 ^ (4 * c.loop-r
 unfolding nibble_for
 added c =
     let l = c.loop-row in
-    rw (c.from.ensures, c.requires, l.invariant, add-one) (one_further l.row c.args.x (search rules))
+    rw (c.from.ensures, c.args.rows.now.standard, l.invariant, add-one) (one_further l.row c.args.x (search rules))
 
 pub overflow_add-done : goal.overflow_add-done
 overflow_add-done c = record { fits = omega (arith, added (goal.at.overflow_add-done c).After-from, substituted_word (c.loop-row.row + 1) c.args.x (omega arith)) }

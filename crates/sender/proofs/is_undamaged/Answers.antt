@@ -1,12 +1,14 @@
--- `sender::is_undamaged` meets its contract: a number too large decides, and else the key data. Assumes nothing.
-use Rattle.std.proofs.Common.{◌∙◌, ◌^◌, arith, lt-ltb, le-ltb}
-use mathlib.Core.Bool.{and-false, and-true}
+-- Sound key data has a flag under 2. Assumes nothing.
+use Rattle.std.proofs.Common.{sym, ◌∙◌, arith, Bool, true, false, ℕ, ◌<◌}
+use Rattle.std.specs.Bool.{OnTrue}
+use Rattle.format.proofs.Soundness.{sound_facts}
+use Rattle.sender.specs.Protect.{key_data_in}
 use Rattle.sender.proofs.is_undamaged.Goals as goal
 
-pub returns-then-current-gt-LAST : goal.returns-then-current-gt-LAST
-returns-then-current-gt-LAST c = let s = c.args.sender in rw (le-ltb s.current (2 ^ 48) (omega arith), and-false)
+either_way : (b : Bool) (flag : ℕ) → flag < 2 → OnTrue b (flag < 2)
+either_way true flag small = small
+either_way false flag small = tt
 
-pub returns : goal.returns
-returns c =
-    let s = c.args.sender in
-    c.is_sound.ensures ∙ rw (lt-ltb s.current (2 ^ 48) (omega arith), and-true)
+pub returns-then-is_sound-clause-flag : goal.returns-then-is_sound-clause-flag
+returns-then-is_sound-clause-flag c =
+    either_way _ _ (omega (arith, (sound_facts (key_data_in c.args.sender.keys) (sym c.is_sound.ensures.answers ∙ c.if-is_sound.true)).flag_small))

@@ -22,7 +22,7 @@ overflow_mul-number c = omega (arith, fits c 0 (omega arith))
 
 pub overflow_add-number : goal.overflow_add-number
 overflow_add-number c =
-    record { fits = fits (goal.at.overflow_add-number c).In-loop-i c.wide.result (search rules) }
+    record { fits = fits (goal.at.overflow_add-number c).In-loop-i c.from.result (search rules) }
 
 pub loop-i-preserved : goal.loop-i-preserved
 loop-i-preserved c =
@@ -31,8 +31,8 @@ loop-i-preserved c =
     let k : a.n - (l.i - 1) ≡ suc (a.n - l.i) = omega arith in
     let j : a.at + (l.i - 1) + 1 ≡ a.at + l.i = omega arith in (
       search rules,
-      rw k (more (goal.at.loop-i-preserved c).In-loop-i c.wide.result (search rules)),
-      rw (k, l.invariant.2, c.wide.ensures.0) (rw j at (one_before (a.n - l.i) (a.at + (l.i - 1)) a.bytes.now)),
+      rw k (more (goal.at.loop-i-preserved c).In-loop-i c.from.result (search rules)),
+      rw (k, l.invariant.2, c.from.ensures) (rw j at (one_before (a.n - l.i) (a.at + (l.i - 1)) a.bytes.now)),
     )
 
 pub returns : goal.returns

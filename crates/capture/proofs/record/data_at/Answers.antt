@@ -11,9 +11,9 @@ returns-then-at-next c =
 pub returns-then-next-source : goal.returns-then-next-source
 returns-then-next-source c =
     let a = c.args in
-    c.without-then-next-source.ensures ∙ overlong a.file.now a.at a.next (λ e. omega arith) (omega (arith, c.wide-identifier.ensures.0))
+    c.without-then-next-source.ensures ∙ overlong a.file.now a.at a.next (λ e. omega arith) (omega arith)
 
 pub returns : goal.returns
 returns c =
     let a = c.args in
-    rw c.wide-identifier.ensures.0 (brings a.file.now a.at a.next (λ e. omega arith) (omega (arith, c.wide-identifier.ensures.0)))
+    brings a.file.now a.at a.next (λ e. omega arith) (omega arith)

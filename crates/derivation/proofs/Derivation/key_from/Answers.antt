@@ -6,17 +6,17 @@ use Rattle.derivation.proofs.Derivation.key_from.Goals.{After-write_data}
 use Rattle.derivation.proofs.Derivation.key_from.Goals as goal
 
 -- the data as it is lent
-front : (c : After-write_data) → let a = c.args in
-    take (18 + length a.self.now.source.now) c.write_data.new.out ≡ 0 ∷ data_after a.self.now.purpose.suite a.self.now.purpose.edition a.self.now.source.now a.self.now.purpose.seqnum
+front : (c : After-write_data) → let d = c.self.inside in
+    take (18 + length d.source.now) c.write_data.new.out ≡ 0 ∷ data_after d.purpose.suite d.purpose.edition d.source.now d.purpose.seqnum
 front c =
-    let a = c.args in
-    data_front a.self.now.purpose.suite a.self.now.purpose.edition a.self.now.source.now a.self.now.purpose.seqnum (replicate 50 0) (search rules) c.write_data.ensures
+    let d = c.self.inside in
+    data_front d.purpose.suite d.purpose.edition d.source.now d.purpose.seqnum (replicate 50 0) (search rules) c.write_data.ensures
 
-lent : (c : After-write_data) → let a = c.args in
-    length (take (18 + length a.self.now.source.now) c.write_data.new.out) ≡ 18 + length a.self.now.source.now
+lent : (c : After-write_data) → let d = c.self.inside in
+    length (take (18 + length d.source.now) c.write_data.new.out) ≡ 18 + length d.source.now
 lent c =
-    let a = c.args in
-    omega (arith, ap length (front c), data_length a.self.now.purpose.suite a.self.now.purpose.edition a.self.now.source.now a.self.now.purpose.seqnum)
+    let d = c.self.inside in
+    omega (arith, ap length (front c), data_length d.purpose.suite d.purpose.edition d.source.now d.purpose.seqnum)
 
 pub slice_bounds-key_of_blocks-end : goal.slice_bounds-key_of_blocks-end
 slice_bounds-key_of_blocks-end c = omega (arith, lent (goal.at.slice_bounds-key_of_blocks-end c).After-write_data)
@@ -26,4 +26,4 @@ key_of_blocks-requires c = (omega (arith, lent (goal.at.key_of_blocks-requires c
 
 pub returns : goal.returns
 returns c =
-    rw (c.key_of_blocks.ensures, front (goal.at.returns c).After-write_data)
+    rw (← c.self.view_is, c.key_of_blocks.ensures, front (goal.at.returns c).After-write_data)

@@ -1,18 +1,16 @@
 -- An undamaged slot has room for its source, and what opening answers decides. Assumes nothing.
-use Rattle.std.proofs.Common.{◌≡◌, ap, ◌∙◌, arith, length, List, ℕ, true}
+use Rattle.std.proofs.Common.{◌≡◌, ap, ◌∙◌, arith, length, List, ℕ}
 use Rattle.slots.specs.Record.{undamaged}
 use Rattle.slots.specs.Table.{slot_of, edition_of, key_of, source_of}
 use Rattle.format.proofs.Room.{read_room}
 use Rattle.gateway.proofs.Arrivals.{leaves_wrong, payload_right, leaves_payload}
 use Rattle.slots.proofs.Damage.{undamaged_sound, source_short}
-use Rattle.gateway.proofs.receiving.check_and_take.Goals.{After-at-held, After-source}
+use Rattle.gateway.proofs.receiving.check_and_take.Goals.{After-source}
 use Rattle.gateway.proofs.receiving.check_and_take.Goals as goal
 
-sound : (c : After-at-held) → undamaged c.at-held.result ≡ true
-sound c = ap undamaged c.at-held.ensures.value ∙ c.requires.is_undamaged
-
 pub source-requires : goal.source-requires
-source-requires c = source_short _ (sound (goal.at.source-requires c).After-at-held) c.at-held.ensures.whole
+source-requires c =
+    source_short _ (ap undamaged c.at-held.ensures.value ∙ c.requires.is_undamaged.unharmed) c.at-held.ensures.whole
 
 edition : (c : After-source) → c.edition.result ≡ edition_of (slot_of c.args.table.now c.args.slot)
 edition c = c.edition.ensures ∙ ap (λ (s : List ℕ). edition_of s) c.at-held.ensures.value
@@ -27,39 +25,41 @@ pub open-opened-requires : goal.open-opened-requires
 open-opened-requires c =
     let after = (goal.at.open-opened-requires c).After-source in
     let p = c.requires in
-    let sound = undamaged_sound _ p.is_undamaged in
-    let room = read_room c.args.message.now p.header_read in
-    (p.header_read, ap length (key after) ∙ sound.key_length, rw (source after) sound.source_most, omega (arith, room.short, p.output_fits))
+    let sound = undamaged_sound _ p.is_undamaged.unharmed in
+    let room = read_room _ c.args.message.now.read in
+    (ap length (key after) ∙ sound.key_length, rw (source after) sound.source_most, omega (arith, room.short, p.output_fits))
 
 pub returns-in_default : goal.returns-in_default
 returns-in_default c =
     let a = c.args in
+    let m = a.message.now in
     let after = (goal.at.returns-in_default c).After-source in
     let opened = c.open-opened.ensures in
-    leaves_wrong a.table.now a.slot a.read a.message.now a.out.now (edition after) (key after) (source after) opened.answers opened.writes
+    leaves_wrong a.table.now a.slot m.header m.bytes.now a.out.now (edition after) (key after) (source after) opened.answers opened.writes
     c.in_default.is
     c.turn_away.ensures
 
-pub take-requires : goal.take-requires
-take-requires c =
+pub take-requires-clause-short : goal.take-requires-clause-short
+take-requires-clause-short c =
     let a = c.args in
-    let p = c.requires in
-    let after = (goal.at.take-requires c).After-source in
+    let m = a.message.now in
+    let after = (goal.at.take-requires-clause-short c).After-source in
     let opened = c.open-opened.ensures in
-    let room = read_room a.message.now p.header_read in
+    let room = read_room _ m.read in
     let payload =
-    payload_right a.table.now a.slot a.read a.message.now a.out.now (edition after) (key after) (source after) opened.answers opened.writes
+    payload_right a.table.now a.slot m.header m.bytes.now a.out.now (edition after) (key after) (source after) opened.answers opened.writes
     _
     c.in-Some.is in
-    record { short = omega (arith, room.short, payload.1); is_undamaged = p.is_undamaged; same_window = p.same_window; admissible = p.admissible }
+    omega (arith, room.short, payload.1)
 
 pub returns : goal.returns
 returns c =
     let a = c.args in
+    let m = a.message.now in
     let after = (goal.at.returns c).After-source in
     let opened = c.open-opened.ensures in
     rw c.slot.view_is
-    (leaves_payload a.table.now a.slot a.read a.message.now a.out.now (edition after) (key after) (source after) opened.answers opened.writes
+    (leaves_payload a.table.now a.slot m.header m.bytes.now a.out.now (edition after) (key after) (source after) opened.answers opened.writes
     _
     _
     c.in-Some.is

@@ -7,7 +7,7 @@ use Rattle.message.proofs.sealing.icv.Goals as goal
 
 -- an ICV is at most a block
 short : (c : After-icv_length) → c.icv_length.result ≤ c.block_length.result
-short c = rw (c.icv_length.ensures, c.block_length.ensures) (icv_most c.args.keys.now.purpose.suite)
+short c = rw (c.icv_length.ensures, c.block_length.ensures) (icv_most c.suite-suite.result)
 
 pub overflow_sub-behind : goal.overflow_sub-behind
 overflow_sub-behind c = omega (arith, short c)
@@ -17,7 +17,7 @@ overflow_mul-result c = omega (arith, c.block_length.ensures)
 
 -- and at least a byte
 some : (c : After-icv_length) → 1 ≤ c.icv_length.result
-some c = omega (arith, c.icv_length.ensures, icv_least c.args.keys.now.purpose.suite)
+some c = omega (arith, c.icv_length.ensures, icv_least c.suite-suite.result)
 
 pub overflow_shr-result : goal.overflow_shr-result
 overflow_shr-result c =
@@ -25,4 +25,4 @@ overflow_shr-result c =
 
 pub returns : goal.returns
 unfolding icv_of
-returns c = rw (c.check_value.ensures, c.icv_length.ensures, c.block_length.ensures, c.check_key.ensures)
+returns c = rw (c.check_value.ensures, c.icv_length.ensures, c.block_length.ensures, c.suite-suite.ensures, c.check_key.ensures)

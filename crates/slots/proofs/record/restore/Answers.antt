@@ -1,7 +1,6 @@
 -- The counters are written behind window and totals. Assumes nothing.
 use Rattle.std.proofs.Common.{arith}
-use Rattle.window.specs.Window.{view_of}
-use Rattle.window.specs.Entry.{Entry}
+use Rattle.window.specs.Entry.{entry_view}
 use Rattle.slots.specs.Table.{slot_of, restored_in, restored}
 use Rattle.slots.proofs.Settled.{length_restored}
 use Rattle.slots.proofs.Settling.{restored_put, written_back}
@@ -13,7 +12,7 @@ unfolding restored
 returns c =
     let a = c.args in
     let from = c.offset-from.ensures in
-    let entry : Entry = record { window = view_of a.window; accepted = a.accepted; bytes = a.bytes; counters = a.counters } in
+    let entry = entry_view a.entry.now in
     written_back a.table.now a.slot _ _ (restored_in entry) _ from.value (omega arith)
     (restored_put _ _ _ _ entry (lent_length a.table.now a.slot _ _ (omega arith) from.within from.value (omega arith)) c.settle.ensures c.write.ensures c.write-2.ensures)
     (length_restored (slot_of a.table.now a.slot) entry (length_of_slot a.table.now a.slot (omega arith) from.within))

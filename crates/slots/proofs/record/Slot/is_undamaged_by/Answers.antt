@@ -1,7 +1,7 @@
 -- The key data decide, and then window, totals and counters. Assumes nothing.
 use Rattle.std.proofs.Common.{sym, ap, ◌∙◌}
 use Rattle.window.specs.Entry.{undamaged_entry}
-use Rattle.slots.proofs.Damage.{entry_is, damaged_unsound, undamaged_by_entry}
+use Rattle.slots.proofs.Damage.{damaged_unsound, undamaged_by_entry}
 use Rattle.slots.proofs.record.Slot.is_undamaged_by.Goals as goal
 
 pub returns-then-not-is_sound : goal.returns-then-not-is_sound
@@ -9,7 +9,5 @@ returns-then-not-is_sound c = damaged_unsound _ (sym c.if-not-is_sound.true ∙ 
 
 pub returns : goal.returns
 returns c =
-    let slot = c.args.self.now in
-    c.undamaged_entry.ensures
-    ∙ ap undamaged_entry (entry_is slot c.requires c.accepted.ensures c.bytes.ensures c.counters.ensures)
-    ∙ undamaged_by_entry slot (sym c.is_sound.ensures ∙ c.if-not-is_sound.false)
+    c.is_undamaged.ensures ∙ ap undamaged_entry c.requires
+    ∙ undamaged_by_entry c.args.self.now (sym c.is_sound.ensures ∙ c.if-not-is_sound.false)

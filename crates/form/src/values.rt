@@ -1,0 +1,46 @@
+// What the lines of a listing say, in four stretches, as they are printed: two that an install settled, and two by the arrivals.
+ghost use Rattle.std.specs.Prelude.{◌≡◌, length};
+
+use text::reading::Hex;
+use window::{Counters, Frame};
+
+// Which entry it is.
+#[derive(Drop)]
+pub struct NamedLines<'a> {
+    pub slot: u64,
+    pub flag: u64,
+    pub keyid: Hex<'a>,
+    pub source: Hex<'a>,
+}
+
+// What else an install settled.
+#[derive(Clone, Copy)]
+pub struct TermLines {
+    pub suite: u64,
+    pub edition: u64,
+    pub frame: Frame,
+}
+
+// What the accepted messages moved.
+#[derive(Drop)]
+pub struct MovedLines<'a> {
+    pub highest: u64,
+    pub marks: Hex<'a>,
+    pub accepted: u64,
+    pub bytes: u64,
+    ghost whole: { length marks ≡ 32 },
+}
+
+// All that an install settled.
+#[derive(Drop)]
+pub struct SettledLines<'a> {
+    pub named: NamedLines<'a>,
+    pub terms: TermLines,
+}
+
+// All that is by the arrivals: what was accepted, and what was turned away.
+#[derive(Drop)]
+pub struct ArrivalLines<'a> {
+    pub moved: MovedLines<'a>,
+    pub counters: Counters,
+}

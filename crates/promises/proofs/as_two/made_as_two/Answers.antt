@@ -1,0 +1,6 @@
+-- `promises::as_two::made_as_two` says what is proved of that name in `promises.proofs.Changes`. Assumes nothing.
+use Rattle.promises.proofs.Changes.{made_as_two}
+use Rattle.promises.proofs.as_two.made_as_two.Goals as goal
+
+pub returns : goal.returns
+returns c = λ t i k f r q c long bytes. made_as_two t long i k f bytes r q c

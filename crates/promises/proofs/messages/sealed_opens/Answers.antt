@@ -1,0 +1,7 @@
+-- `promises::messages::sealed_opens` says what is proved of that name in `message.proofs.RoundTrip`. Assumes nothing.
+use Rattle.promises.proofs.RoundTrip.{writable_of as writable}
+use Rattle.message.proofs.RoundTrip.{sealed_opens}
+use Rattle.promises.proofs.messages.sealed_opens.Goals as goal
+
+pub returns : goal.returns
+returns c = λ s k n payload w. sealed_opens s k n payload (writable w) w.short
