@@ -23,7 +23,7 @@ pub(crate) fn change_in(
     if !installing::fair(keys, frame) {
         return Err(Refusal::Unsound);
     }
-    if lookup::leads_elsewhere(table, index, keys.flag, keys.keyid, keys.source).is_some() {
+    if lookup::leads_elsewhere(table, slot, keys.flag, keys.keyid, keys.source).is_some() {
         return Err(Refusal::Twin);
     }
     filling::write_entry(table, index, keys, frame);

@@ -1,17 +1,17 @@
 -- The lowest slot that passes a test: a turn of a loop that looks for it, and what the answer says.
 -- Assumes nothing.
 use mathlib.Core.Path.{◌≡◌, refl, sym, ap, ◌∙◌}
-use mathlib.Core.Bool.{Bool, true, false, cond, not, ◌&&◌, not-eq-not, true≢false}
+use mathlib.Core.Bool.{Bool, true, false, cond, not, ◌&&◌, and-false, not-eq-not, true≢false}
 use mathlib.Core.List.{List}
 use Prim.Native.Nat.{ℕ, zero, suc, ◌+◌, ◌-◌, ◌≤◌, ◌<◌}
 use native.Mathlib.Decide.{dec_lt, ℕ_discrete}
 use native.Mathlib.Numerals.{add-one}
 use native.Mathlib.Omega.{arith}
-use borrow.Author.Tests.{ne_eqb, not-true}
+use borrow.Author.Tests.{eq-eqb, ne_eqb, not-true}
 use lib.Dec.{eqb}
 use Rattle.slots.specs.Table.{slot_of, occupied, slot_count}
 use Rattle.lookup.specs.Lookup.{matches, first_from, leads_to, leads_elsewhere, first_free}
-use Rattle.std.specs.Prelude.{None, Some}
+use Rattle.std.specs.Prelude.{Option, None, Some}
 
 module _ (test : ℕ → Bool) where
   -- a loop through the sixteen slots goes on
@@ -87,6 +87,33 @@ module _ (test : ℕ → Bool) (i : ℕ) where
 
   pub other_is : (j : ℕ) → (j ≡ i → ⊥) → others j ≡ test j
   other_is j other = simp (ne_eqb j i other)
+
+  fails_too : (j : ℕ) → test j ≡ false → others j ≡ false
+  fails_too j fails = simp (fails, and-false)
+
+  pub other_first : (j : ℕ) → first_from test slot_count 0 ≡ Some j → (j ≡ i → ⊥) → first_from others slot_count 0 ≡ Some j
+  other_first j e other =
+      let there = found test slot_count 0 j e in
+      lowest others j there.0 (other_is j other ∙ there.1) (λ k l. fails_too k (lower test slot_count 0 j e k (omega arith) l))
+
+  pub other_next : first_from test slot_count 0 ≡ Some i → first_from others slot_count 0 ≡ first_from test (slot_count - (i + 1)) (i + 1)
+  other_next e = by (first_from test (slot_count - (i + 1)) (i + 1)) refl
+    where
+      -- below the slot none passes, and the slot does not count
+      fails : (k : ℕ) → (i < k → test k ≡ false) → others k ≡ false
+      fails k above = at (dec_lt k i) (dec_lt i k)
+        where
+          at : Dec (k < i) → Dec (i < k) → others k ≡ false
+          at (yes l) d = fails_too k (lower test slot_count 0 i e k (omega arith) l)
+          at (no l) (yes h) = fails_too k (above h)
+          at (no l) (no h) = simp (eq-eqb k i (omega arith))
+
+      by : (f : Option ℕ) → first_from test (slot_count - (i + 1)) (i + 1) ≡ f → first_from others slot_count 0 ≡ f
+      by (Some j) p =
+          let there = found test (slot_count - (i + 1)) (i + 1) j p in
+          lowest others j (omega (arith, there.0, there.2)) (other_is j (λ same. omega (arith, there.2)) ∙ there.1)
+          (λ k l. fails k (λ h. lower test (slot_count - (i + 1)) (i + 1) j p k (omega arith) l))
+      by None p = all_fail others slot_count 0 (λ k a l. fails k (λ h. none test (slot_count - (i + 1)) (i + 1) k p (omega arith) (omega arith)))
 
 -- a slot that one test finds is found by another that it passes, where below it nothing passes the other alone
 pub found_too : (test other : ℕ → Bool) (i : ℕ) → first_from test slot_count 0 ≡ Some i → other i ≡ true

@@ -71,6 +71,19 @@ module _ (flag : ℕ) (key_id source s : List ℕ) where
         same_test (key_id_of s) key_id a.keyid_same,
       )
 
+  -- for flag 0 any source will do, from what the code has tested
+  pub any_source : (get_or s occupied_at 0 ≡ 0 → ⊥) → key_id_length_of s ≤ key_id_room → source_length_of s ≤ source_room
+      → flag_of s ≡ flag → same (key_id_of s) key_id ≡ true → flag ≡ 0 → true ≡ matches flag key_id source s
+  any_source held keyid_short source_short flag_same keyid_same none =
+      let alike : Alike flag key_id s = record {
+        held = held;
+        keyid_short = keyid_short;
+        source_short = source_short;
+        flag_same = flag_same;
+        keyid_same = same_true _ _ keyid_same;
+      } in
+      simp (eq-eqb flag 0 none) at (own_source_decides alike)
+
   -- for flag 1, the source too
   pub match_source : matches flag key_id source s ≡ true → (flag ≡ 0 → ⊥) → source_of s ≡ source
   match_source h = source_fact flag (source_of s) source (own_source_decides (match_facts h) ∙ h)

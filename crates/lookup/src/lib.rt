@@ -17,20 +17,19 @@ pub fn leads_to(table: &[u8; TABLE], flag: u8, keyid: &[u8], source: &[u8]) -> O
     first_slot(|slot| agrees(&Slot::at(table, slot), flag, keyid, source))
 }
 
-/// The lowest other one than this slot.
+/// The lowest other one than the slot with that number.
 #[tactic(auto, unfolding(crate::specs::Lookup::leads_elsewhere))]
 pub fn leads_elsewhere(
     table: &[u8; TABLE],
-    slot: SlotIndex,
+    slot: usize,
     flag: u8,
     keyid: &[u8],
     source: &[u8],
 ) -> Option<SlotIndex>
     ensures { result ≡ leads_elsewhere table.now slot flag keyid.now source.now }
 {
-    let own = slot.number;
     first_slot(move |other| {
-        other.number != own && agrees(&Slot::at(table, other), flag, keyid, source)
+        other.number != slot && agrees(&Slot::at(table, other), flag, keyid, source)
     })
 }
 

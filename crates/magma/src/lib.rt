@@ -1,7 +1,7 @@
 // Magma, the cipher of GOST R 34.12-2015 with blocks of 64 bits. `specs/Magma.antt` says what it is.
 #![tactic(auto)]
 
-ghost use Rattle.std.specs.Prelude.{◌≡◌, reverse, length};
+ghost use Rattle.std.specs.Prelude.{◌≡◌, reverse};
 ghost use Rattle.magma.specs.Magma.{pi, substituted, turned, swapping, through, encrypted, key_words};
 
 // Row r says what becomes of the nibble of value 16^r.

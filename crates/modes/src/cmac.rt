@@ -65,7 +65,7 @@ impl<'k> CheckKey<'k> {
 
 // The check value with a subkey for a last block that is full and one for a shorter one. By value: lent with the key in a struct, they take its stack.
 #[inline(never)]
-fn check_with(key: &[u32; 8], full: u64, short: u64, bytes: &[u8]) -> u64
+pub fn check_with(key: &[u32; 8], full: u64, short: u64, bytes: &[u8]) -> u64
     ensures { result ≡ check_with 8 (encrypted key.now) full short bytes.now }
 {
     let (front, last) = bytes.split_at(8 * blocks_before(bytes.len()));

@@ -5,6 +5,6 @@
 mod cmac;
 mod ctr;
 
-pub use cmac::{CheckKey, check_value};
+pub use cmac::{CheckKey, check_value, check_with};
 pub use ctr::counter;
 pub use magma::key_words;

@@ -28,12 +28,14 @@ pub fn write(out: &mut [u8], at: usize, n: usize, number: u64)
     }
 }
 
-// The bytes are written at `at`.
+// The bytes are written at `at`. By `copy_from_slice` a program would have to bring memmove along; this becomes memcpy.
 pub fn copy(bytes: &[u8], out: &mut [u8], at: usize)
     requires { at + length bytes.now ≤ length out.old }
     ensures { out.new ≡ put out.old at bytes.now }
 {
-    out[at..at + bytes.len()].copy_from_slice(bytes);
+    for (i, byte) in bytes.iter().enumerate() {
+        out[at + i] = *byte;
+    }
 }
 
 // n zeros are written at `at`.

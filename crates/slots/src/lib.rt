@@ -3,4 +3,4 @@
 
 pub mod index; // index.rt: which slot of a table
 pub mod layout; // layout.rt: where the parts of an entry stand in its slot
-pub mod record; // record.rt: window, totals and counters of an entry
+pub mod record; // record.rt: a slot, read, checked and written back

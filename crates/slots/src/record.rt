@@ -54,13 +54,21 @@ impl<'a> Model for Slot<'a> {
 }
 
 impl<'a> Slot<'a> {
+    /// The bytes of a slot, whichever they are.
+    pub fn of(content: &'a [u8; SLOT]) -> Slot<'a>
+        ensures { result ≡ content.now }
+    {
+        Slot { content }
+    }
+
+    /// A slot of a table.
     pub fn at(table: &'a [u8; TABLE], slot: SlotIndex) -> Slot<'a>
         ensures value { result ≡ slot_of table.now slot }
         ensures whole { length result ≡ slot_length }
     {
         let from = slot.offset();
         let content: &'a [u8; SLOT] = table[from..from + SLOT].try_into().unwrap();
-        Slot { content }
+        Slot::of(content)
     }
 
     pub fn is_occupied(&self) -> bool
@@ -263,15 +271,23 @@ pub fn take(table: &mut [u8; TABLE], slot: SlotIndex, entry: &Entry, number: u64
 }
 
 /// One refusal more in a counter of the entry in a slot.
+#[tactic(auto, using(crate::proofs::Rewriting::place_within))]
 pub fn raise(table: &mut [u8; TABLE], slot: SlotIndex, counter: Counter)
     ensures { table.new ≡ raised table.old slot (place_of counter) }
 {
-    let place = counter.place();
-    let refused = Slot::at(table, slot).number(place);
+    raise_at(table, slot, counter.place());
+}
+
+/// The same of the eight bytes that stand at a place among the counters.
+pub fn raise_at(table: &mut [u8; TABLE], slot: SlotIndex, counter: usize)
+    requires { (replays_at ≤ counter) × (counter + 8 ≤ spare_at) }
+    ensures { table.new ≡ raised table.old slot counter }
+{
+    let refused = Slot::at(table, slot).number(counter);
     let from = slot.offset();
     octets::write(
         &mut table[from..from + SLOT],
-        place,
+        counter,
         8,
         window::one_more(refused),
     );
