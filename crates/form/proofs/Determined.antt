@@ -8,14 +8,9 @@ use Rattle.std.specs.Prelude.{Option, Some, None, IsNone}
 use Rattle.text.specs.Reading.{Read}
 use Rattle.text.proofs.ReadPrinted.{got_rest, never}
 use Rattle.form.specs.Form.{read_settled, read_arrivals}
-use Rattle.form.specs.Found.{settled_values, arrival_values, reached}
+use Rattle.form.specs.Found.{settled_values, arrival_values, reached, Answers}
 use Rattle.form.specs.declared.values.SettledLines.{SettledLines}
 use Rattle.form.specs.declared.values.ArrivalLines.{ArrivalLines}
-
--- what the reader answers of the text that it has left, and what it has left then
-pub record Answers {A B : Type 0} (values : A → B) (grammar : List ℕ → Read B) (text : List ℕ) (a : Option A) (left : List ℕ) : Type 0 where
-  pub read : reached values a left ≡ grammar text
-  pub stays : IsNone a → left ≡ text
 
 module _ {A B : Type 0} (values : A → B) (grammar : List ℕ → Read B) (text : List ℕ) where
   left_same : (a b : Option A) (l m : List ℕ) → Answers values grammar text a l → Answers values grammar text b m → l ≡ m

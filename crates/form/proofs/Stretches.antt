@@ -4,8 +4,9 @@
 use mathlib.Core.Path.{◌≡◌, refl}
 use mathlib.Core.List.{List, [], ◌∷◌}
 use mathlib.Core.Option.{none, some}
-use Prim.Native.Nat.{ℕ}
-use Rattle.octets.specs.Octets.{big_endian}
+use Prim.Native.Nat.{ℕ, ◌≤◌}
+use lib.ListN.{length, drop, drop_of_length-le}
+use Rattle.octets.specs.Octets.{big_endian, same}
 use Rattle.text.specs.Reading.{Read, failed, got, read_decimal_line, read_hex_line, read_bytes_line, read_number_line}
 use Rattle.window.specs.declared.Counters.{Counters}
 use Rattle.listing.specs.Listing.{slot_name, flag_name, key_id_name, source_name, suite_name, edition_name, size_name, start_name, highest_name, marks_name, accepted_name, bytes_name, replays_name, forged_name}
@@ -104,6 +105,15 @@ settled_two l = refl
 pub arrivals_two : (l : List ℕ) → read_arrivals l ≡ two read_moved read_counters arrivals_from l
 unfolding read_arrivals
 arrivals_two l = refl
+
+-- none in a text that has ended
+pub named_past : (text : List ℕ) (at : ℕ) → length text ≤ at → read_named (drop at text) ≡ failed
+unfolding read_named read_decimal_line same
+named_past text at h = rw (drop_of_length-le text {i = at} h)
+
+pub moved_past : (text : List ℕ) (at : ℕ) → length text ≤ at → read_moved (drop at text) ≡ failed
+unfolding read_moved read_number_line read_bytes_line read_hex_line same
+moved_past text at h = rw (drop_of_length-le text {i = at} h)
 
 -- ---- the text
 

@@ -1,2 +1,3 @@
 pub mod Form
 pub mod Found
+pub mod Left

@@ -2,6 +2,7 @@
 ghost use Rattle.std.specs.Prelude.{◌≡◌};
 ghost use Rattle.answers.specs.Answers.{answer_of};
 ghost use Rattle.octets.specs.Octets.{big_endian};
+ghost use Rattle.text.specs.Written.{written};
 ghost use Rattle.window.specs.Window.{view_of};
 ghost use Rattle.entries.specs.Install.{IsLeft};
 ghost use Rattle.form.specs.Found.{named_values, settled_values, arrival_values};
@@ -117,7 +118,7 @@ fn terms_so(slot: &Slot<'_>, terms: TermLines) -> bool
 
 // The listed window: the marks are four words, the lowest last in the text.
 fn listed_window(frame: Frame, moved: &MovedLines<'_>) -> Window
-    ensures { view_of result ≡ record { frame = frame; highest = moved.now.highest; marks = big_endian 32 moved.now.marks } }
+    ensures { view_of result ≡ record { frame = frame; highest = moved.now.highest; marks = big_endian 32 (written moved.now.marks) } }
 {
     let marks = &moved.marks;
     Window {

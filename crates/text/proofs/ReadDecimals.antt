@@ -1,19 +1,20 @@
 -- Reading a decimal, byte by byte: the line feed, a byte that may not follow, a digit more, and the end of the text; and the name of a line.
 -- Assumes nothing.
-use mathlib.Core.Path.{◌≡◌, refl, sym, ◌∙◌}
+use mathlib.Core.Path.{◌≡◌, refl, sym, ap, ◌∙◌}
 use mathlib.Core.Bool.{Bool, true, false, cond, ◌&&◌, not}
-use mathlib.Core.List.{List, [], ◌∷◌}
+use mathlib.Core.List.{List, [], ◌∷◌, ◌++◌}
 use Prim.Native.Nat.{ℕ, ◌+◌, ◌*◌, ◌-◌, ◌≤◌, ◌<◌}
 use native.Mathlib.Numerals.{add-one}
 use native.Mathlib.Omega.{arith}
 use borrow.Author.Tests.{eq-eqb, ne_eqb, le-leb, leb-true, eqb-false, not-true}
 use lib.Dec.{eqb, leb}
-use lib.ListN.{length, get_or, take, drop, drop_of_length-le}
+use lib.ListN.{length, get_or, take, drop, take-append-drop, drop_of_length-le, length-take, length-drop}
 use lib.Pointwise.{pointwise}
 use lib.Seq.{drop-cons}
 use Rattle.std.specs.Prelude.{Some, None}
 use Rattle.numbers.proofs.Tests.{and_left, and_right}
-use Rattle.octets.proofs.Same.{same_is}
+use Rattle.octets.specs.Octets.{same}
+use Rattle.octets.proofs.Same.{same_true, same_is}
 use Rattle.text.specs.Reading.{Read, failed, got, named, is_digit, may_follow, read_digits, read_decimal, greatest_decimal}
 use Rattle.text.specs.Found.{next_of}
 
@@ -86,6 +87,21 @@ module _ (name text : List ℕ) {A : Type 0} (f : List ℕ → Read A) where
 
   pub this_name : {rest : List ℕ} → pointwise eqb (take (length name) text) name ≡ true → rest ≡ drop (length name) text → f rest ≡ named name f text
   this_name e r = sym (rw (← same_is (take (length name) text) name, e, ← r))
+
+-- behind the name is what is left
+pub begins : (name text : List ℕ) {rest : List ℕ} → pointwise eqb (take (length name) text) name ≡ true → rest ≡ drop (length name) text → name ++ rest ≡ text
+begins name text e r =
+    let front = take (length name) text in
+    ap (λ (m : List ℕ). name ++ m) r
+    ∙ ap (λ (m : List ℕ). m ++ drop (length name) text) (sym (same_true front name (sym (same_is front name) ∙ e)))
+    ∙ take-append-drop (length name) text
+
+-- a name that stands there has room there
+module _ (name text : List ℕ) (at : ℕ) where
+  pub room : at ≤ length text → same (take (length name) (drop at text)) name ≡ true → at + length name ≤ length text
+  room h e =
+      let long = ap length (same_true (take (length name) (drop at text)) name e) in
+      omega (arith, length-take (length name) (drop at text), length-drop at text, long)
 
 pub no_more : (l : List ℕ) → length l ≡ 0 → failed ≡ read_decimal l
 unfolding read_decimal

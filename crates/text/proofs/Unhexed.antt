@@ -2,12 +2,13 @@
 -- Assumes nothing.
 use mathlib.Core.Path.{◌≡◌, refl, sym, ap, ◌∙◌}
 use mathlib.Core.List.{List, [], ◌∷◌, ◌++◌}
-use Prim.Native.Nat.{ℕ, zero, suc, ◌+◌, ◌*◌, ◌/◌, ◌%◌, ◌<◌}
+use Prim.Native.Nat.{ℕ, zero, suc, ◌+◌, ◌*◌, ◌/◌, ◌%◌, ◌<◌, ◌≤◌}
 use native.Mathlib.Omega.{arith}
 use lib.ListN.{length, get_or, take, drop, length-append, length-take, length-drop, get_or-append}
-use lib.Seq.{get_or-drop, get_or-take, drop-drop}
+use lib.Seq.{get_or-drop, get_or-take, drop-drop, take_all}
 use Rattle.std.proofs.lemmas.List.{get_or-append-add}
 use Rattle.octets.specs.Octets.{Bytes, part}
+use Rattle.octets.proofs.Parts.{length_part}
 use Rattle.text.specs.Reading.{is_hex, value_of}
 use Rattle.text.specs.Found.{unhexed, Digits}
 use Rattle.text.proofs.ReadPrinted.{hex_digit, no_bytes, one_byte}
@@ -50,6 +51,14 @@ unhexed_take (suc n) (a ∷ b ∷ l) =
 pub unhexed_part : (at n : ℕ) (l : List ℕ) → unhexed (part (2 * at) (2 * n) l) ≡ part at n (unhexed l)
 unhexed_part at n l = unhexed_take n (drop (2 * at) l) ∙ ap (take n) (unhexed_drop at l)
 
+-- all that the digits of a list write, by their number
+pub unhexed_all : (n : ℕ) (l : List ℕ) → n ≡ length (unhexed l) → unhexed (part 0 (2 * n) l) ≡ unhexed l
+unhexed_all n l e = unhexed_part 0 n l ∙ take_all n (unhexed l) (omega (arith, e))
+
+-- n pairs of digits at a place write n bytes
+pub length_unhexed_part : (at n : ℕ) (l : List ℕ) → at + 2 * n ≤ length l → length (unhexed (part at (2 * n) l)) ≡ n
+length_unhexed_part at n l h = omega (arith, length_unhexed (part at (2 * n) l), length_part at (2 * n) l h)
+
 pub unhexed_bytes : (l : List ℕ) → Digits l → Bytes (unhexed l)
 unfolding unhexed
 unhexed_bytes [] d = no_bytes
@@ -64,22 +73,21 @@ digits_part at n l d k x h =
     ap is_hex (get_or-take n (drop at l) k x (omega (arith, length-take n (drop at l))) ∙ get_or-drop at l k x)
     ∙ d (at + k) x (omega (arith, length-take n (drop at l), length-drop at l))
 
--- digits that are left, the pair that comes next, and what is left then
+-- what is left, the pair that comes next, and what is left then
 pub record Pair (rest pair after : List ℕ) : Type 0 where
   pub cut : rest ≡ pair ++ after
-  pub digits : Digits rest
   pub two : length pair ≡ 2
 
 module _ {rest pair after : List ℕ} (p : Pair rest pair after) where
-  pub pair_digits : Digits pair
-  pair_digits k x h =
+  pub pair_digits : Digits rest → Digits pair
+  pair_digits d k x h =
       ap is_hex (sym (ap (λ (l : List ℕ). get_or l k x) p.cut ∙ get_or-append pair after x k h))
-      ∙ p.digits k x (omega (arith, ap length p.cut, length-append pair after))
+      ∙ d k x (omega (arith, ap length p.cut, length-append pair after))
 
-  pub digits_after : Digits after
-  digits_after k x h =
+  pub digits_after : Digits rest → Digits after
+  digits_after d k x h =
       ap is_hex (sym (ap (λ (l : List ℕ). get_or l (length pair + k) x) p.cut ∙ get_or-append-add pair after k x))
-      ∙ p.digits (length pair + k) x (omega (arith, ap length p.cut, length-append pair after))
+      ∙ d (length pair + k) x (omega (arith, ap length p.cut, length-append pair after))
 
   pub pair_ahead : {x : ℕ} → unhexed pair ≡ x ∷ [] → unhexed rest ≡ x ∷ unhexed after
   pair_ahead e =

@@ -5,6 +5,7 @@ ghost use Rattle.std.specs.Prelude.{◌≡◌, ◌+◌, ◌*◌, ◌≤◌, ◌<
 ghost use Rattle.octets.specs.Octets.{put};
 ghost use Rattle.text.specs.Text.{decimal_of, glyph, hex_of, decimal_field, decimal_line, hex_line};
 
+mod hexed; // hexed.rt: bytes in hex, as the digits that write them
 pub mod reading; // reading.rt: lines, read from the front of a text
 
 pub(crate) const LINE_FEED: u8 = 10;

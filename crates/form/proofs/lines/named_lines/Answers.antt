@@ -21,15 +21,15 @@ pub returns-in_err-keyid : goal.returns-in_err-keyid
 returns-in_err-keyid c =
     let text = c.args.text.now in
     rw c.from_residual-in_err-keyid.ensures
-    (sym (named_four text ∙ third_fails slot_line flag_line keyid_line source_line named_of text (sym c.in_ok-slot.ensures) (sym c.in_ok-flag.ensures) (sym c.in_err-keyid.ensures)))
+    (sym (named_four text ∙ third_fails slot_line flag_line keyid_line source_line named_of text (sym c.in_ok-slot.ensures) (sym c.in_ok-flag.ensures) (sym c.in_err-keyid.ensures.found)))
 
 pub returns-in_err-source : goal.returns-in_err-source
 returns-in_err-source c =
     let text = c.args.text.now in
     rw c.from_residual-in_err-source.ensures
-    (sym (named_four text ∙ fourth_fails slot_line flag_line keyid_line source_line named_of text (sym c.in_ok-slot.ensures) (sym c.in_ok-flag.ensures) (sym c.in_ok-keyid.ensures) (sym c.in_err-source.ensures)))
+    (sym (named_four text ∙ fourth_fails slot_line flag_line keyid_line source_line named_of text (sym c.in_ok-slot.ensures) (sym c.in_ok-flag.ensures) (sym c.in_ok-keyid.ensures.found) (sym c.in_err-source.ensures.found)))
 
 pub returns : goal.returns
 returns c =
     let text = c.args.text.now in
-    sym (named_four text ∙ all_four slot_line flag_line keyid_line source_line named_of text (sym c.in_ok-slot.ensures) (sym c.in_ok-flag.ensures) (sym c.in_ok-keyid.ensures) (sym c.in_ok-source.ensures))
+    sym (named_four text ∙ all_four slot_line flag_line keyid_line source_line named_of text (sym c.in_ok-slot.ensures) (sym c.in_ok-flag.ensures) (sym c.in_ok-keyid.ensures.found) (sym c.in_ok-source.ensures.found))

@@ -2,6 +2,7 @@
 use Rattle.std.proofs.Common.{◌≡◌, refl, sym, ap, ◌∙◌, true≢false, not, List, ℕ, ne_eqb}
 use Rattle.octets.specs.Octets.{same}
 use Rattle.octets.proofs.Same.{same_true}
+use Rattle.text.specs.Written.{written}
 use Rattle.slots.specs.Table.{key_id_of}
 use Rattle.lookup.proofs.Matching.{Alike, held_true, same_test}
 use Rattle.form.specs.Found.{named_values}
@@ -19,8 +20,8 @@ returns-then-not-has_room c = not_named _ _ (λ m. true≢false (sym (c.if-not-h
 pub returns-then-from-named : goal.returns-then-from-named
 returns-then-from-named c = not_named _ _ (λ m. c.if-from-named.true (c.from.ensures ∙ c.flag.ensures ∙ m.flag_same))
 
-keyid : (c : After-is) → let a = c.args in c.is.result ≡ same (key_id_of a.slot.now) (a.named.now.keyid)
-keyid c = c.is.ensures ∙ ap (λ (l : List ℕ). same l (c.args.named.now.keyid)) c.keyid.ensures
+keyid : (c : After-is) → let a = c.args in c.is.result ≡ same (key_id_of a.slot.now) (written a.named.now.keyid)
+keyid c = c.is.ensures ∙ ap (λ (l : List ℕ). same l (written c.args.named.now.keyid)) c.keyid.ensures
 
 pub returns-then-not-is : goal.returns-then-not-is
 returns-then-not-is c =
@@ -30,7 +31,7 @@ pub returns : goal.returns
 returns c =
     let a = c.args in
     let room = c.if-not-has_room.ensures.0 refl in
-    let like : Alike a.named.now.flag (a.named.now.keyid) a.slot.now =
+    let like : Alike a.named.now.flag (written a.named.now.keyid) a.slot.now =
     record {
       held = held_true _ (sym c.is_occupied.ensures ∙ c.if-not-is_occupied.false);
       keyid_short = room.0;
@@ -38,5 +39,5 @@ returns c =
       flag_same = sym (c.from.ensures ∙ c.flag.ensures) ∙ c.if-from-named.false;
       keyid_same = same_true _ _ (sym (keyid (goal.at.returns c).After-is) ∙ c.if-not-is.false);
     } in
-    c.is-2.ensures ∙ ap (λ (l : List ℕ). same l (a.named.now.source)) c.source.ensures
+    c.is-2.ensures ∙ ap (λ (l : List ℕ). same l (written a.named.now.source)) c.source.ensures
     ∙ source_decides (named_values a.named.now) a.slot.now like

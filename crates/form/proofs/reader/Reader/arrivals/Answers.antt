@@ -9,18 +9,26 @@ use Rattle.form.proofs.reader.Reader.arrivals.Goals.{In_ok-arrivals}
 use Rattle.form.proofs.reader.Reader.arrivals.Goals as goal
 
 -- the text from the place on is the lines that were read, and what is left
-lines : (c : In_ok-arrivals) → let text = c.self.inside.text.now in let at = c.self.inside.at in
+lines : (c : In_ok-arrivals) → let text = c.args.self.now.text.now in let at = c.args.self.now.at in
     take (length text - at) (drop at text) ≡ arrival_text (arrival_values c.in_ok-arrivals.arrivals) ++ c.in_ok-arrivals.rest.now
-lines c = let text = c.self.inside.text.now in let at = c.self.inside.at in
+lines c =
+    let text = c.args.self.now.text.now in
+    let at = c.args.self.now.at in
     arrivals_print (take (length text - at) (drop at text)) (arrival_values c.in_ok-arrivals.arrivals) c.in_ok-arrivals.rest.now (sym c.in_ok-arrivals.ensures)
 
 pub overflow_sub-self : goal.overflow_sub-self
 overflow_sub-self c =
-    omega (arith, rest_within c.self.inside.text.now (arrival_text (arrival_values c.in_ok-arrivals.arrivals)) c.in_ok-arrivals.rest.now c.self.inside.at (lines (goal.at.overflow_sub-self c).In_ok-arrivals))
+    let r = c.args.self.now in
+    rest_within r.text.now (arrival_text (arrival_values c.in_ok-arrivals.arrivals)) c.in_ok-arrivals.rest.now r.at (lines (goal.at.overflow_sub-self c).In_ok-arrivals)
 
-pub returns-clause-read : goal.returns-clause-read
-returns-clause-read c =
-    let text = c.self.inside.text.now in
+pub returns-clause-found : goal.returns-clause-found
+returns-clause-found c =
+    let r = c.args.self.now in
+    let text = r.text.now in
     let values = arrival_values c.in_ok-arrivals.arrivals in
-    ap (λ (m : List ℕ). got values m) (rest_is text (arrival_text values) c.in_ok-arrivals.rest.now c.self.inside.at (lines (goal.at.returns-clause-read c).In_ok-arrivals))
-    ∙ c.in_ok-arrivals.ensures ∙ ap read_arrivals (from_place text c.self.inside.at ∙ c.self.view_is)
+    record {
+      read =
+          ap (λ (m : List ℕ). got values m) (rest_is text (arrival_text values) c.in_ok-arrivals.rest.now r.at (lines (goal.at.returns-clause-found c).In_ok-arrivals))
+          ∙ c.in_ok-arrivals.ensures ∙ ap read_arrivals (from_place text r.at);
+      stays = λ e. cc;
+    }
