@@ -1,5 +1,5 @@
 // The parts of a line.
-ghost use Rattle.std.specs.Prelude.{◌≤◌, length};
+ghost use Rattle.std.specs.Prelude.{◌≤◌, min, length};
 
 /// A line that says something, in its parts.
 #[derive(Clone, Copy)]
@@ -37,11 +37,11 @@ impl<'a> Line<'a> {
 
 // Where the first such byte stands from a place on, or the text's end where there is none.
 fn find(text: &[u8], from: usize, byte: u8) -> usize
-    ensures { result ≤ length text.now }
+    ensures { (min from (length text.now) ≤ result) × (result ≤ length text.now) }
 {
-    text.iter()
-        .enumerate()
-        .skip(from)
-        .find(|(_, other)| **other == byte)
-        .map_or(text.len(), |(at, _)| at)
+    let rest = text.get(from..).unwrap_or(&[]);
+    match rest.iter().position(|other| *other == byte) {
+        Some(at) => from + at,
+        None => text.len(),
+    }
 }
