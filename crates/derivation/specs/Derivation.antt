@@ -1,5 +1,5 @@
 -- Derived keys (01, "Suites and derived keys"; 000, 7.1.3, 7.1.4 and 7.2.2; 02, No. 4, on SN, and No. 5, on CS).
-use Rattle.std.specs.Prelude.{cond, List, [], ◌∷◌, ◌++◌, ℕ, zero, suc, ◌+◌, ◌/◌, ◌%◌, ◌^◌, eqb, length}
+use Rattle.std.specs.Prelude.{◌≡◌, cond, List, [], ◌∷◌, ◌++◌, ℕ, zero, suc, ◌+◌, ◌/◌, ◌%◌, ◌^◌, ◌<◌, eqb, length, get_or}
 use Rattle.octets.specs.Octets.{bytes_of}
 use Rattle.modes.specs.Modes.{magma_check}
 use Rattle.format.specs.Suite.{label_of, number_of, key_blocks_of, output_bits_of}
@@ -12,6 +12,10 @@ pub record Inputs : Type 0 where
   pub edition : ℕ
   pub source : List ℕ
   pub seq_num : ℕ
+
+-- the words of a base key: eight, each of 32 bits
+abbrev pub IsBase : List ℕ → Type 0
+IsBase ws = (length ws ≡ 8) × ((i : ℕ) → get_or ws i 0 < 2 ^ 32)
 
 -- 35 bits of SeqNum's 48: in edition 1 the low ones, else the top ones
 abbrev pub serial_of : ℕ → ℕ → ℕ

@@ -5,7 +5,7 @@ ghost use Rattle.std.specs.Prelude.{◌∷◌, ◌≡◌, ◌+◌, ◌<◌, ◌�
 ghost use Rattle.octets.specs.Octets.{put};
 ghost use Rattle.modes.specs.Modes.{magma_check};
 ghost use Rattle.format.specs.Suite.{key_blocks_of};
-ghost use Rattle.derivation.specs.Derivation.{Inputs, serial_of, iv_of, data_after, block_words, key_from, check_key, cipher_key};
+ghost use Rattle.derivation.specs.Derivation.{Inputs, IsBase, serial_of, iv_of, data_after, block_words, key_from, check_key, cipher_key};
 
 use format::key_data;
 use format::suite::Suite;
@@ -21,7 +21,7 @@ pub struct Purpose {
     pub seqnum: u64,
 }
 
-// What the keys of a message are derived from, with a source of at most 32 bytes.
+// What the keys of a message are derived from, with a source of at most 32 bytes and eight words of a base key.
 #[derive(Drop)]
 pub struct Derivation<'a> {
     base: CheckKey<'a>,
@@ -31,13 +31,13 @@ pub struct Derivation<'a> {
 
 impl<'a> Model for Derivation<'a> {
     ghost use Rattle.std.specs.Prelude.{◌≤◌, length};
-    ghost use Rattle.derivation.specs.Derivation.{Inputs};
+    ghost use Rattle.derivation.specs.Derivation.{Inputs, IsBase};
 
     ghost Value = { Inputs };
 
     ghost view = { λ d. record { base = d.base; suite = d.purpose.suite; edition = d.purpose.edition; source = d.source.now; seq_num = d.purpose.seqnum } };
 
-    ghost invariant = { λ d. length d.source.now ≤ 32 };
+    ghost invariant = { λ d. (length d.source.now ≤ 32) × IsBase d.base };
 }
 
 // The first of the blocks that make the check key.
@@ -73,9 +73,10 @@ impl<'a> Derivation<'a> {
         self.purpose.suite
     }
 
-    // The number of the message.
+    // The number of the message. Whoever is lent a derivation learns here that its base key is one: it has eight words of 32 bits.
     pub fn seqnum(&self) -> u64
-        ensures { result ≡ self.now.seq_num }
+        ensures answers { result ≡ self.now.seq_num }
+        ensures base { IsBase self.now.base }
     {
         self.purpose.seqnum
     }

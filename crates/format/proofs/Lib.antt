@@ -1,3 +1,4 @@
+pub mod Determined
 pub mod Headers
 pub mod KeyIds
 pub mod Room

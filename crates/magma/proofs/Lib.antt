@@ -1,3 +1,4 @@
+pub mod Determined
 pub mod Substitution
 pub mod Rounds
 pub mod Widths

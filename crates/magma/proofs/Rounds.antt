@@ -11,7 +11,7 @@ through_append a b h = fold-append (λ (g : Halves) (word : ℕ). swapping word 
 
 module _ (key : List ℕ) where
   -- the key forwards three times, then backwards
-  in_turn : (h : Halves) → through (schedule key) h ≡ through (reverse key) (through key (through key (through key h)))
+  pub in_turn : (h : Halves) → through (schedule key) h ≡ through (reverse key) (through key (through key (through key h)))
   unfolding schedule
   in_turn h = rw (through_append, through_append, through_append)
 

@@ -6,9 +6,12 @@ use Prim.Native.Nat.{ℕ, zero, suc, ◌*◌, ◌^◌, ◌≤◌, ◌<◌}
 use native.Mathlib.Omega.{arith}
 use lib.ListN.{length, get_or, take, length-append}
 use lib.Seq.{take-suc, take-length}
-use Rattle.octets.specs.Octets.{bytes_of}
+use Rattle.octets.specs.Octets.{bytes_of, put}
 use Rattle.octets.proofs.BigEndian.{length_bytes, number_there}
 use Rattle.magma.specs.Magma.{words, key_words}
+use Rattle.format.specs.KeyData.{handed_in}
+use Rattle.derivation.specs.Derivation.{Inputs, IsBase}
+use Rattle.message.specs.Sealing.{sealed}
 
 -- the bytes of the first n words
 bytes_of_words : List ℕ → ℕ → List ℕ
@@ -40,3 +43,18 @@ module _ (ws : List ℕ) (small : (i : ℕ) → get_or ws i 0 < 2 ^ 32) where
   pub seal_under_determined : {A : Type 0} (f : List ℕ → A) {x y : A} → length ws ≡ 8
       → ((key : List ℕ) → key_words key ≡ ws → x ≡ f key) → ((key : List ℕ) → key_words key ≡ ws → y ≡ f key) → x ≡ y
   seal_under_determined f e p q = p _ (of_a_key e) ∙ sym (q _ (of_a_key e))
+
+-- the two results of a call, the answer and the output, by the clauses of `seal_under`
+module _ (d : Inputs) (flag : ℕ) (key_id payload out : List ℕ) where
+  pub record Sealed (answer : ℕ) (left : List ℕ) : Type 0 where
+    pub base : IsBase d.base
+    pub answers : (key : List ℕ) (cs : ℕ) → key_words key ≡ d.base → answer ≡ length (sealed d.suite (handed_in flag key_id d.source cs d.edition key) d.seq_num payload)
+    pub writes : (key : List ℕ) (cs : ℕ) → key_words key ≡ d.base → left ≡ put out 0 (sealed d.suite (handed_in flag key_id d.source cs d.edition key) d.seq_num payload)
+
+  -- there is one message
+  pub message_determined : {a b : ℕ} {x y : List ℕ} → Sealed a x → Sealed b y → (a ≡ b) × (x ≡ y)
+  message_determined p q =
+      let message : List ℕ → List ℕ = λ key. sealed d.suite (handed_in flag key_id d.source 0 d.edition key) d.seq_num payload in (
+        seal_under_determined d.base p.base.1 (λ key. length (message key)) p.base.0 (λ key. p.answers key 0) (λ key. q.answers key 0),
+        seal_under_determined d.base p.base.1 (λ key. put out 0 (message key)) p.base.0 (λ key. p.writes key 0) (λ key. q.writes key 0),
+      )

@@ -4,6 +4,7 @@ ghost use Rattle.octets.specs.Octets.{put};
 ghost use Rattle.magma.specs.Magma.{key_words};
 ghost use Rattle.format.specs.Header.{fixed_bytes};
 ghost use Rattle.format.specs.KeyData.{handed_in};
+ghost use Rattle.derivation.specs.Derivation.{IsBase};
 ghost use Rattle.message.specs.Sealing.{enciphered, icv_of, sealed, opened_as, output_after};
 ghost use Rattle.format.specs.Suite.{icv_length_of};
 
@@ -29,7 +30,7 @@ pub fn seal(suite: Suite, keys: &KeyData<'_>, seqnum: u64, payload: &[u8], out: 
     seal_under(&derived, keys.flag, keys.keyid, payload, out)
 }
 
-// The same with what the keys are derived from at hand, whatever key has the words of the base key.
+// The same with what the keys are derived from at hand, whatever key has the words of the base key. They are eight words of 32 bits, so some key has.
 pub fn seal_under(
     keys: &Derivation<'_>,
     flag: u8,
@@ -38,6 +39,7 @@ pub fn seal_under(
     out: &mut [u8],
 ) -> usize
     requires { (flag < 2) × (keys.now.seq_num < 2 ^ 48) × (fixed_bytes + length keyid.now + length payload.now + icv_length_of keys.now.suite ≤ length out.old) × (length payload.now ≤ 2 ^ 35) }
+    ensures base { IsBase keys.now.base }
     ensures answers { (key : List ℕ) (cs : ℕ) → key_words key ≡ keys.now.base → result ≡ length (sealed keys.now.suite (handed_in flag keyid.now keys.now.source cs keys.now.edition key) keys.now.seq_num payload.now) }
     ensures writes { (key : List ℕ) (cs : ℕ) → key_words key ≡ keys.now.base → out.new ≡ put out.old 0 (sealed keys.now.suite (handed_in flag keyid.now keys.now.source cs keys.now.edition key) keys.now.seq_num payload.now) }
 {

@@ -5,7 +5,7 @@ use mathlib.Core.List.{List, [], ◌∷◌}
 use mathlib.Core.Bool.{Bool, true, false}
 use Prim.Native.Nat.{ℕ, zero, suc, min, ◌+◌, ◌-◌, ◌*◌, ◌/◌, ◌%◌, ◌^◌, ◌≤◌, ◌<◌}
 use native.Mathlib.Nat.{add-zero, zero-add, add_comm, mul-add, mul_assoc, mul_comm, mul-zero, one-mul, mul-suc, pow-zero, mul-le-mul_left}
-use native.Mathlib.Nat.{zero-div, div-one, div-eq_of_lt, div-add-mod, add-mul-div_left, lt_of_lt_of_le, le_of_suc-le-suc, not-suc-le-zero}
+use native.Mathlib.Nat.{zero-div, div-one, div-eq_of_lt, div-add-mod, add-mul-div_left, lt_of_lt_of_le, le_of_suc-le-suc, not-suc-le-zero, lt_of_not-le}
 use native.Mathlib.Nat.{zero-mod, mod-one, mod-lt, mod-eq_of_lt, mod-add-div, add-mul-mod_self_left, min-eq_left, min-eq_right}
 use native.Mathlib.Numerals.{add-one}
 use native.Mathlib.Omega.{arith}
@@ -95,6 +95,14 @@ cut_is k s p (x ∷ xs) d = rw (cut_is k s (p + k) xs (λ i. d (suc i))) (by (le
         mod-pow-add (x + 2 ^ k * n) (s - (p + k)) k ∙ rw (rest k x n (d 0), first k x n (d 0)) in
         rw (min-eq_right h, mod-eq_of_lt (d 0), mul_comm (2 ^ k) (n % 2 ^ (s - (p + k))))
         (add_comm x (n % 2 ^ (s - (p + k)) * 2 ^ k) ∙ sym (rw whole at parts))
+
+-- a number that loses a digit when it is cut was wider
+pub cut_changes : (k s j : ℕ) (l r : List ℕ) → Digits k l → Digits k r → from_digits k r ≡ from_digits k l % 2 ^ s
+    → (get_or r j 0 ≡ get_or l j 0 → ⊥) → 2 ^ s ≤ from_digits k l
+cut_changes k s j l r d f e changed = le_of_suc-le-suc (lt_of_not-le (λ h. changed (same h)))
+  where
+    same : from_digits k l < 2 ^ s → get_or r j 0 ≡ get_or l j 0
+    same h = sym (digit_at k r f j) ∙ ap (λ (x : ℕ). x / 2 ^ (k * j) % 2 ^ k) (e ∙ mod-eq_of_lt h) ∙ digit_at k l d j
 
 -- ---- the digits times a number
 

@@ -13,8 +13,9 @@ use borrow.Author.Tests.{lt-ltb, le-ltb}
 use Rattle.std.specs.Cmp.Lexicographic.{pointwise}
 use Rattle.std.proofs.lemmas.Slice.Eq.{bytes_eq-Decides}
 use Rattle.words.specs.FourWords.{IsFourWords, words_of, words_back}
-use lib.ListN.{length, get_or, drop, set, drop_of_length-le}
+use lib.ListN.{length, get_or, take, drop, set, drop_of_length-le}
 use lib.Pow.{pow_pos, pow-lt, shl-shr}
+use lib.Seq.{take_all}
 use mir.Syntax.{w64}
 use mir.Val.{Fits}
 use Rattle.numbers.specs.Digits.{bit, from_digits}
@@ -77,6 +78,13 @@ pub cut_four : (s : ℕ) (m : List ℕ) {p q r t : ℕ} → length m ≡ 4 → D
     → from_digits 64 (p ∷ q ∷ r ∷ t ∷ []) ≡ from_digits 64 m % 2 ^ s
 cut_four s m n d e f g h =
     rw (e, f, g, h) (ap (λ (l : List ℕ). from_digits 64 (cut 64 s 0 l)) (four_is m n) ∙ (rw sub-zero at (cut_is 64 s 0 m d)))
+
+-- a number that stays the same is no wider
+pub cut_keeps : (m r : List ℕ) → length m ≡ 4 → length r ≡ 4 → (s i : ℕ) → 4 ≤ i → from_digits 64 r ≡ from_digits 64 m % 2 ^ s
+    → take i r ≡ take i m → from_digits 64 m < 2 ^ s
+cut_keeps m r n k s i h e t =
+    let same : r ≡ m = sym (take_all i r (omega arith)) ∙ t ∙ take_all i m (omega arith) in
+    subst (λ (x : ℕ). x < 2 ^ s) (sym e ∙ ap (from_digits 64) same) (mod-lt (from_digits 64 m) (pow_pos s))
 
 false_of : (r : Bool) → (r ≡ true → ⊥) → r ≡ false
 false_of true h = absurd (h refl)

@@ -1,6 +1,7 @@
 -- `Derivation::key_from` meets its contract: the blocks' data is what was written behind the place of their number. Assumes nothing.
-use Rattle.std.proofs.Common.{◌≡◌, ap, ◌∷◌, ◌+◌, arith, rules, length, take, replicate}
-use Rattle.derivation.specs.Derivation.{data_after}
+use Rattle.std.proofs.Common.{◌≡◌, ap, ◌∙◌, ◌∷◌, ◌+◌, arith, rules, List, ℕ, length, take, drop, replicate}
+use Rattle.modes.specs.Modes.{magma_check}
+use Rattle.derivation.specs.Derivation.{data_after, block_words}
 use Rattle.derivation.proofs.Pieces.{data_length, data_front}
 use Rattle.derivation.proofs.Derivation.key_from.Goals.{After-write_data}
 use Rattle.derivation.proofs.Derivation.key_from.Goals as goal
@@ -26,4 +27,7 @@ key_of_blocks-requires c = (omega (arith, lent (goal.at.key_of_blocks-requires c
 
 pub returns : goal.returns
 returns c =
-    rw (← c.self.view_is, c.key_of_blocks.ensures, front (goal.at.returns c).After-write_data)
+    let d = c.self.inside in
+    rw (← c.self.view_is)
+    (c.key_of_blocks.ensures
+    ∙ ap (λ (bytes : List ℕ). block_words (λ i. magma_check d.base (i ∷ drop 1 bytes)) c.args.first 4) (front (goal.at.returns c).After-write_data))

@@ -17,7 +17,7 @@ written : (c : After-encipher) (key : List ℕ) (cs : ℕ) → key_words key ≡
 written c key cs words =
     let a = c.args in
     let d = a.keys.now in
-    front_written d.suite (handed_in a.flag a.keyid.now d.source cs d.edition key) d.seq_num a.payload.now a.out.now (rw (c.suite-suite.ensures, c.seqnum.ensures) at c.write_header.ensures)
+    front_written d.suite (handed_in a.flag a.keyid.now d.source cs d.edition key) d.seq_num a.payload.now a.out.now (rw (c.suite-suite.ensures, c.seqnum.ensures.answers) at c.write_header.ensures)
     (rw (same_inputs d words) at c.encipher.ensures)
 
 pub slice_bounds-icv-end-2 : goal.slice_bounds-icv-end-2
@@ -27,6 +27,7 @@ pub returns : goal.returns
 returns c =
     let a = c.args in
     let d = a.keys.now in record {
+      base = c.seqnum.ensures.base;
       answers = λ key cs words. rw (c.icv_length-2.ensures, c.suite-suite.ensures)
           (sym (sealed_length d.suite (handed_in a.flag a.keyid.now d.source cs d.edition key) d.seq_num a.payload.now));
       writes = λ key cs words. sealed_written d.suite (handed_in a.flag a.keyid.now d.source cs d.edition key) d.seq_num a.payload.now a.out.now
