@@ -1,16 +1,22 @@
--- What of a slot its listing prints: how long parts of it are, and the lines behind one another.
+-- What of a slot its listing prints: how long parts of it are, KeyId among them, and the lines behind one another.
 -- Assumes nothing.
 use mathlib.Core.Path.{◌≡◌}
+use mathlib.Core.Bool.{true}
 use mathlib.Core.List.{List}
-use Prim.Native.Nat.{ℕ, ◌-◌, ◌≤◌}
+use Prim.Native.Nat.{ℕ, ◌-◌, ◌≤◌, ◌<◌}
 use native.Mathlib.Omega.{arith}
-use lib.ListN.{length, drop, length-take, length-drop}
-use Rattle.octets.specs.Octets.{big_endian, bytes_of, part}
+use lib.ListN.{length, get_or, drop, length-take, length-drop}
+use Rattle.octets.specs.Octets.{Bytes, big_endian, bytes_of, part}
+use Rattle.octets.proofs.BigEndian.{bytes_drop, bytes_take}
+use Rattle.octets.proofs.Parts.{length_part}
+use Rattle.format.proofs.KeyIds.{length_most}
 use Rattle.window.specs.declared.Counters.{Counters}
 use Rattle.window.specs.declared.Frame.{Frame}
-use Rattle.slots.specs.Table.{flag_of, cs_of, edition_of, key_id_of, source_of, frame_of, window_of, counters_of, accepted_at, bytes_at}
+use Rattle.slots.specs.Table.{flag_of, cs_of, edition_of, key_id_length_of, key_id_of, source_of, frame_of, window_of, counters_of, slot_length, key_id_length_at, key_id_at, accepted_at, bytes_at, key_id_room}
+use Rattle.slots.specs.Record.{undamaged}
 use Rattle.text.specs.Text.{decimal_line, hex_line}
 use Rattle.listing.specs.Listing.{slot_name, flag_name, key_id_name, source_name, suite_name, edition_name, size_name, start_name, highest_name, marks_name, accepted_name, bytes_name, replays_name, forged_name, named_lines, term_lines, moved_lines, counter_lines}
+use Rattle.slots.proofs.Damage.{undamaged_sound}
 use Rattle.octets.proofs.Places.{Written, further}
 
 -- a part is no longer than it says, and than what there is behind its place
@@ -19,6 +25,13 @@ part_most at n l = omega (arith, length-take n (drop at l))
 
 pub part_behind : (at n : ℕ) (l : List ℕ) → length (part at n l) ≤ length l - at
 part_behind at n l = omega (arith, length-take n (drop at l), length-drop at l)
+
+module _ (s : List ℕ) (long : length s ≡ slot_length) (b : Bytes s) where
+  pub keyid_short : undamaged s ≡ true → key_id_length_of s ≤ key_id_room
+  keyid_short u =
+      let n : length (key_id_of s) ≡ key_id_length_of s = length_part key_id_at (key_id_length_of s) s (omega (arith, b key_id_length_at)) in
+      let first : get_or (key_id_of s) 0 0 < 256 = bytes_take (key_id_length_of s) (drop key_id_at s) (bytes_drop key_id_at s b) 0 in
+      omega (arith, (undamaged_sound s u).keyid_length, length_most (get_or (key_id_of s) 0 0) 0 first)
 
 -- ---- four lines of what was read of a slot, and two
 

@@ -91,6 +91,9 @@ module _ (test : ℕ → Bool) (i : ℕ) where
   fails_too : (j : ℕ) → test j ≡ false → others j ≡ false
   fails_too j fails = simp (fails, and-false)
 
+  pub none_other : first_from test slot_count 0 ≡ None → first_from others slot_count 0 ≡ None
+  none_other e = all_fail others slot_count 0 (λ k a l. fails_too k (none test slot_count 0 k e a l))
+
   pub other_first : (j : ℕ) → first_from test slot_count 0 ≡ Some j → (j ≡ i → ⊥) → first_from others slot_count 0 ≡ Some j
   other_first j e other =
       let there = found test slot_count 0 j e in

@@ -1,12 +1,15 @@
--- Comparing two lists byte for byte: what the answer says, and that std's comparison is it.
+-- Comparing two lists byte for byte: what the answer says, a turn of a loop that compares and its ends, and that std's comparison is it.
 -- Assumes nothing.
-use mathlib.Core.Path.{◌≡◌, refl, ap, ap₂}
+use mathlib.Core.Path.{◌≡◌, refl, ap, ap₂, sym, ◌∙◌}
 use mathlib.Core.Bool.{true, false, ◌&&◌, and-false}
 use mathlib.Core.List.{List, [], ◌∷◌}
-use Prim.Native.Nat.{ℕ, suc}
-use borrow.Author.Tests.{eq-eqb, eqb-true}
+use Prim.Native.Nat.{ℕ, suc, ◌+◌, ◌≤◌, ◌<◌}
+use native.Mathlib.Numerals.{add-one}
+use native.Mathlib.Omega.{arith}
+use borrow.Author.Tests.{eq-eqb, ne_eqb, eqb-true}
 use lib.Dec.{eqb}
-use lib.ListN.{length}
+use lib.ListN.{length, get_or, drop, drop_of_length-le}
+use lib.Seq.{drop-cons}
 use Rattle.std.specs.Cmp.Lexicographic.{pointwise}
 use Rattle.numbers.proofs.Tests.{and_left, and_right}
 use Rattle.octets.specs.Octets.{same}
@@ -30,6 +33,22 @@ other_length [] [] h = absurd (h refl)
 other_length [] (y ∷ ys) h = refl
 other_length (x ∷ xs) [] h = refl
 other_length (x ∷ xs) (y ∷ ys) h = rw (other_length xs ys (λ e. h (ap suc e))) (and-false (eqb x y))
+
+-- what is left decides, after i bytes
+module _ (a b : List ℕ) (i : ℕ) (long : length a ≡ length b) (left : same a b ≡ same (drop i a) (drop i b)) where
+  next : i < length a → same a b ≡ (eqb (get_or a i 0) (get_or b i 0) && same (drop (i + 1) a) (drop (i + 1) b))
+  unfolding same
+  next h = left ∙ rw (drop-cons a i 0 h, drop-cons b i 0 (omega arith), add-one)
+
+  pub other : i < length a → (get_or a i 0 ≡ get_or b i 0 → ⊥) → false ≡ same a b
+  other h d = sym (next h ∙ rw (ne_eqb (get_or a i 0) (get_or b i 0) d))
+
+  pub one_further : i < length a → get_or a i 0 ≡ get_or b i 0 → same a b ≡ same (drop (i + 1) a) (drop (i + 1) b)
+  one_further h e = next h ∙ rw (eq-eqb (get_or a i 0) (get_or b i 0) e)
+
+  pub done : length a ≤ i → true ≡ same a b
+  unfolding same
+  done h = sym (left ∙ rw (drop_of_length-le a h, drop_of_length-le b {i = i} (omega arith)))
 
 -- std's `==` says the same
 pub same_is : (a b : List ℕ) → pointwise eqb a b ≡ same a b

@@ -1,4 +1,5 @@
 pub mod Damage
+pub mod Determined
 pub mod Replacing
 pub mod Numbers
 pub mod Rewriting

@@ -28,6 +28,13 @@ pub record SoundFrame (f : Frame) : Type 0 where
 pub frame_facts : (f : Frame) → sound_frame f ≡ true → SoundFrame f
 frame_facts f h = search (and_left, and_right, leb-true) depth 9
 
+pub frame_test : (f : Frame) → SoundFrame f → sound_frame f ≡ true
+frame_test f s = search (and_both, le-leb) depth 9
+
+-- A frame of which one fact fails is unsound.
+pub frame_unsound : (f : Frame) → (SoundFrame f → ⊥) → false ≡ sound_frame f
+frame_unsound f bad = refuted (sound_frame f) (λ e. bad (frame_facts f e))
+
 -- The rule's tests, as facts.
 pub record UndamagedWindow (w : View) : Type 0 where
   pub framed : SoundFrame w.frame

@@ -1,5 +1,5 @@
 -- Each refusal denies one fact of a slot that matches, and where none is denied the source decides. Assumes nothing.
-use Rattle.std.proofs.Common.{refl, sym, true≢false, ap, ◌∙◌, List, ℕ, eq-eqb, ne_eqb}
+use Rattle.std.proofs.Common.{refl, sym, true≢false, ap, ◌∙◌, List, ℕ, arith, eq-eqb, ne_eqb}
 use Rattle.octets.specs.Octets.{same}
 use Rattle.lookup.proofs.Matching.{Alike, held_true, no_match, free_no_match, own_source_decides, pointwise_same, equal_lists, unequal_lists}
 use Rattle.lookup.proofs.agrees.Goals.{Else-ne}
@@ -31,11 +31,11 @@ alike c =
 pub returns-then-flag-eq0 : goal.returns-then-flag-eq0
 returns-then-flag-eq0 c =
     let a = c.args in
-    let zero = eq-eqb a.flag 0 c.if-flag-eq0.true in
-    zero ∙ simp zero at (own_source_decides a.flag a.keyid.now a.source.now a.slot.now (alike (goal.at.returns-then-flag-eq0 c).Else-ne))
+    let zero = eq-eqb a.flag 0 (omega arith) in
+    eq-eqb _ 0 c.if-flag-eq0.true ∙ simp zero at (own_source_decides a.flag a.keyid.now a.source.now a.slot.now (alike (goal.at.returns-then-flag-eq0 c).Else-ne))
 
 pub returns-else-flag-eq0 : goal.returns-else-flag-eq0
 returns-else-flag-eq0 c =
     let a = c.args in
     c.eq.ensures ∙ pointwise_same _ _ ∙ ap (λ (l : List ℕ). same l a.source.now) c.source.ensures
-    ∙ simp (ne_eqb a.flag 0 c.if-flag-eq0.false) at (own_source_decides a.flag a.keyid.now a.source.now a.slot.now (alike (goal.at.returns-else-flag-eq0 c).Else-ne))
+    ∙ simp (ne_eqb a.flag 0 (λ e. omega arith)) at (own_source_decides a.flag a.keyid.now a.source.now a.slot.now (alike (goal.at.returns-else-flag-eq0 c).Else-ne))

@@ -1,5 +1,5 @@
 -- `gateway::receiving::arrive` meets its contract: what each test found is the fact of its reply. Assumes nothing.
-use Rattle.std.proofs.Common.{◌≡◌, refl, sym, ap, ◌∙◌, List, ℕ}
+use Rattle.std.proofs.Common.{◌≡◌, refl, sym, ap, ◌∙◌, arith, List, ℕ}
 use Rattle.answers.specs.declared.Refusal.TheVariants.{BelowFloor, Repeated}
 use Rattle.window.specs.Entry.{Entry, entry_view}
 use Rattle.window.specs.Window.{verdict_of}
@@ -30,7 +30,7 @@ returns-then-suite-number c =
     let a = c.args in
     let m = a.message.now in
     leaves_kept
-    (suite_refused a.table.now a.slot m.header m.bytes.now a.out.now (unharmed (goal.at.returns-then-suite-number c).Else-not-is_undamaged_by).unharmed (λ e. c.if-suite-number.true (c.suite.ensures ∙ ap (λ (s : List ℕ). cs_of s) c.at-held.ensures.value ∙ e ∙ sym c.number.ensures)))
+    (suite_refused a.table.now a.slot m.header m.bytes.now a.out.now (unharmed (goal.at.returns-then-suite-number c).Else-not-is_undamaged_by).unharmed (λ e. c.if-suite-number.true (omega (arith, ap (λ (s : List ℕ). cs_of s) c.at-held.ensures.value))))
     refl
 
 pub check_and_take-requires-clause-is_undamaged : goal.check_and_take-requires-clause-is_undamaged
@@ -44,7 +44,7 @@ judging c held v e =
     let a = c.args in
     let m = a.message.now in
     by_verdict a.table.now a.slot m.header m.bytes.now a.out.now held.unharmed
-    (sym (c.suite.ensures ∙ ap (λ (s : List ℕ). cs_of s) c.at-held.ensures.value) ∙ c.if-suite-number.false ∙ c.number.ensures)
+    (omega (arith, ap (λ (s : List ℕ). cs_of s) c.at-held.ensures.value))
     v
     (ap (λ (x : Entry). verdict_of x.window m.header.seqnum) (sym held.entry) ∙ sym c.admissible-verdict.ensures ∙ e)
 

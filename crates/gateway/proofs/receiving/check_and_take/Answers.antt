@@ -12,9 +12,6 @@ pub source-requires : goal.source-requires
 source-requires c =
     source_short _ (ap undamaged c.at-held.ensures.value ∙ c.requires.is_undamaged.unharmed) c.at-held.ensures.whole
 
-edition : (c : After-source) → c.edition.result ≡ edition_of (slot_of c.args.table.now c.args.slot)
-edition c = c.edition.ensures ∙ ap (λ (s : List ℕ). edition_of s) c.at-held.ensures.value
-
 key : (c : After-source) → c.key.result.now ≡ key_of (slot_of c.args.table.now c.args.slot)
 key c = c.key.ensures ∙ ap (λ (s : List ℕ). key_of s) c.at-held.ensures.value
 
@@ -27,7 +24,7 @@ open-opened-requires c =
     let p = c.requires in
     let sound = undamaged_sound _ p.is_undamaged.unharmed in
     let room = read_room _ c.args.message.now.read in
-    (ap length (key after) ∙ sound.key_length, rw (source after) sound.source_most, omega (arith, room.short, p.output_fits))
+    (omega (arith, ap length (key after), sound.key_length), rw (source after) sound.source_most, omega (arith, room.short, p.output_fits))
 
 pub returns-in_default : goal.returns-in_default
 returns-in_default c =
@@ -35,7 +32,8 @@ returns-in_default c =
     let m = a.message.now in
     let after = (goal.at.returns-in_default c).After-source in
     let opened = c.open-opened.ensures in
-    leaves_wrong a.table.now a.slot m.header m.bytes.now a.out.now (edition after) (key after) (source after) opened.answers opened.writes
+    let edition = ap (λ (s : List ℕ). edition_of s) c.at-held.ensures.value in
+    leaves_wrong a.table.now a.slot m.header m.bytes.now a.out.now opened.answers opened.writes (omega (arith, edition)) (key after) (source after)
     c.in_default.is
     c.turn_away.ensures
 
@@ -45,9 +43,10 @@ take-requires-clause-short c =
     let m = a.message.now in
     let after = (goal.at.take-requires-clause-short c).After-source in
     let opened = c.open-opened.ensures in
+    let edition = ap (λ (s : List ℕ). edition_of s) c.at-held.ensures.value in
     let room = read_room _ m.read in
     let payload =
-    payload_right a.table.now a.slot m.header m.bytes.now a.out.now (edition after) (key after) (source after) opened.answers opened.writes
+    payload_right a.table.now a.slot m.header m.bytes.now a.out.now opened.answers opened.writes (omega (arith, edition)) (key after) (source after)
     _
     c.in-Some.is in
     omega (arith, room.short, payload.1)
@@ -58,8 +57,9 @@ returns c =
     let m = a.message.now in
     let after = (goal.at.returns c).After-source in
     let opened = c.open-opened.ensures in
+    let edition = ap (λ (s : List ℕ). edition_of s) c.at-held.ensures.value in
     rw c.slot.view_is
-    (leaves_payload a.table.now a.slot m.header m.bytes.now a.out.now (edition after) (key after) (source after) opened.answers opened.writes
+    (leaves_payload a.table.now a.slot m.header m.bytes.now a.out.now opened.answers opened.writes (omega (arith, edition)) (key after) (source after)
     _
     _
     c.in-Some.is
